@@ -65,10 +65,10 @@ def table_lines(text):
 
 
 def said():
-    """What the page says of each row: instructions of a call at n and at 4n."""
+    """What the page says of each row: the numbers of its cells, nan where one is empty."""
     text, first, end = table_lines(player.read(PAGE))
     rows = [[cell.strip() for cell in line.split('|')[1:-1]] for line in text[first + 2:end]]
-    return {cells[0]: [float(cell.replace(',', '')) for cell in cells[1:3]] for cells in rows}
+    return {cells[0]: [float(cell.replace(',', '') or 'nan') for cell in cells[1:]] for cells in rows}
 
 
 def verdict(line, small, large, page):
@@ -77,7 +77,7 @@ def verdict(line, small, large, page):
     if line.name and not told:
         return 'IS NOT ON THE PAGE', False
     if told and (small > WORSE * told[0] or large > WORSE * told[1]):
-        return 'IS WORSE than the page says, %.0f and %.0f' % tuple(told), False
+        return 'IS WORSE than the page says, %.0f and %.0f' % tuple(told[:2]), False
     if large / small > (MORE * line.known if line.known else MOST):
         return 'GROWS', False
     return ('no longer grows: delete its first word' if line.known and large / small <= MOST else 'passes'), True
@@ -108,11 +108,15 @@ def places(ratio):
 class Row:
     """A row of the page's table."""
 
-    def __init__(self, line, program):
+    def __init__(self, line, program, told):
+        """What the page tells of it, or None where the crate's own code is counted too."""
         self.name = line.name
         self.here = [line.counted(program, 'here', at) for at in (1, 4, 16)]
-        self.crate = [line.counted(program, 'crate', at) for at in (1, 4)]
-        self.patched = line.counted(program, 'patched', 4)
+        if told:
+            self.crate, self.patched = told[4:6], told[7]
+        else:
+            self.crate = [line.counted(program, 'crate', at) for at in (1, 4)]
+            self.patched = line.counted(program, 'patched', 4)
         self.growth = max((large / small for small, large in zip(self.here, self.here[1:]) if large == large), default=math.nan)
         # At 4n, or at n where the crate's filling takes too long at 4n.
         at = 0 if math.isnan(self.crate[1]) else 1
@@ -125,11 +129,15 @@ class Row:
         return '| ' + ' | '.join(cells) + ' |'
 
 
-def table(path, program, is_written):
-    """Prints the rows with a name, the worst beside the crate first, and writes them into the page if asked to."""
-    rows = []
+def table(path, program, has_crate, is_written):
+    """Prints the rows with a name, the worst beside the crate first, and writes them into the page if asked to. Without the crate's own
+    code its columns are those of the page."""
+    rows, page = [], {} if has_crate else said()
+    named = [line for line in lines(path) if line.name]
+    if not has_crate and any(line.name not in page for line in named):
+        raise Failure('%s lacks a row: it needs ORACLE and ALLOCATOR' % PAGE)
     with concurrent.futures.ThreadPoolExecutor(2) as pool:
-        for row in pool.map(lambda line: Row(line, program), [line for line in lines(path) if line.name]):
+        for row in pool.map(lambda line: Row(line, program, page.get(line.name)), named):
             print(row.shown(), flush=True)
             rows.append(row)
     rows.sort(key=lambda row: (math.isnan(row.ratio), -row.ratio if row.ratio == row.ratio else -row.here[1]))

@@ -140,13 +140,17 @@ class Player:
 CALLGRIND = ['valgrind', '--tool=callgrind', '--instr-atstart=no' if platform.machine() == 'x86_64' else '--toggle-collect=*counted*']
 
 
-def by_callgrind(program, text, seconds):
+# By one instruction, of which callgrind counts each byte, the C library fills and copies nothing then.
+WORD_BY_WORD = {'GLIBC_TUNABLES': 'glibc.cpu.x86_rep_stosb_threshold=100000000:glibc.cpu.x86_rep_movsb_threshold=100000000'}
+
+
+def by_callgrind(program, text, seconds, env=()):
     """Runs a program over a line. What it answered, and the instructions of each file that callgrind left, by their order; None
     where it took longer than so many seconds."""
     with tempfile.TemporaryDirectory() as folder:
         command = CALLGRIND + ['--callgrind-out-file=' + os.path.join(folder, 'out'), program]
         try:
-            done = subprocess.run(command, input=text, capture_output=True, text=True, timeout=seconds)
+            done = subprocess.run(command, input=text, capture_output=True, text=True, timeout=seconds, env=dict(os.environ, **dict(env)))
         except subprocess.TimeoutExpired:
             return None
         if done.returncode or not done.stdout:
@@ -156,9 +160,9 @@ def by_callgrind(program, text, seconds):
     return done.stdout, [int(re.search(r'^(?:totals|summary): (\d+)', text, re.M).group(1)) for text in files]
 
 
-def counted(program, form, genome, part, bounds, seconds=None):
+def counted(program, form, genome, part, bounds, seconds=None, env=()):
     """The instructions of a call of this part, as callgrind counts them; None where it took longer than so many seconds."""
-    found = by_callgrind(program, words_of(form, 0, bounds, part, genome), seconds)
+    found = by_callgrind(program, words_of(form, 0, bounds, part, genome), seconds, env)
     if found is None:
         return None
     calls = Played(found[0]).calls(part)

@@ -10,7 +10,7 @@ VERSION = '0.7.0'
 # What find_package takes for another version: those that begin so.
 SERIES = '0.7'
 # GUILLOTIERE_INTERFACE, which is in the name of the shared library.
-INTERFACE = 2
+INTERFACE = 3
 # What pkg-config says of a library that the kit proved and built, and of one that cargo built.
 HOW = {True: ', proved and built by the Rattle kit', False: ' in plain Rust, from proved sources, and not proved itself'}
 SONAME = 'libguillotiere.so.%d' % INTERFACE

@@ -25,20 +25,24 @@ static uint64_t nothing;
 #define IN_PLACE always_inline
 #endif
 
-/* MAKER: makes a value of its parts. SMALL: has few lines. PART: any other function, where GCC by measurement does better with a hint. */
+/* MAKER: makes a value of its parts. SMALL: has few lines. COLD: is seldom called, as its source says, and never put in place. PART: any
+ * other function, where GCC by measurement does better with a hint. */
 #if defined(__clang__)
 #define MAKER static inline __attribute__((IN_PLACE, unused))
 #define SMALL static inline __attribute__((IN_PLACE))
+#define COLD static __attribute__((noinline))
 #define PART static
 #define UNREACHABLE() __builtin_unreachable()
 #elif defined(__GNUC__)
 #define MAKER static inline __attribute__((IN_PLACE, unused))
 #define SMALL static inline __attribute__((IN_PLACE))
+#define COLD static __attribute__((noinline))
 #define PART static inline
 #define UNREACHABLE() __builtin_unreachable()
 #else
 #define MAKER static inline
 #define SMALL static inline
+#define COLD static
 #define PART static
 #define UNREACHABLE() abort()
 #endif
@@ -125,9 +129,7 @@ typedef struct atlas_model_Size atlas_model_Size;
 typedef struct atlas_model_AllocatorOptions atlas_model_AllocatorOptions;
 typedef struct Box_AtlasAllocator Box_AtlasAllocator;
 typedef struct Vec_Slot Vec_Slot;
-typedef struct atlas_search_Mask atlas_search_Mask;
-typedef struct array_Mask_52 array_Mask_52;
-typedef struct atlas_search_Marks atlas_search_Marks;
+typedef struct array_u16_8 array_u16_8;
 typedef struct atlas_search_Table atlas_search_Table;
 typedef struct atlas_search_Link atlas_search_Link;
 typedef struct atlas_search_Borders atlas_search_Borders;
@@ -312,6 +314,7 @@ typedef struct Result_Rooms Result_Rooms;
 typedef struct ControlFlow_Entries_u64_BuildHasherDefault_FoldHasher_FoldHasher ControlFlow_Entries_u64_BuildHasherDefault_FoldHasher_FoldHasher;
 typedef struct Result_Entries_u64_BuildHasherDefault_FoldHasher_FoldHasher Result_Entries_u64_BuildHasherDefault_FoldHasher_FoldHasher;
 typedef struct ControlFlow_ErrResidual_CacheError ControlFlow_ErrResidual_CacheError;
+typedef struct atlas_cache_Known atlas_cache_Known;
 typedef struct Iter_PlainSize Iter_PlainSize;
 typedef struct Map_Iter_PlainSize Map_Iter_PlainSize;
 typedef struct ControlFlow_ErrResidual_SheetError ControlFlow_ErrResidual_SheetError;
@@ -324,6 +327,9 @@ typedef struct ControlFlow_ErrResidual_SheetError_Arrangement ControlFlow_ErrRes
 typedef struct Result_Arrangement_SheetError Result_Arrangement_SheetError;
 typedef struct slice_Link slice_Link;
 typedef struct Tried Tried;
+typedef struct atlas_search_Mask atlas_search_Mask;
+typedef struct array_Mask_52 array_Mask_52;
+typedef struct atlas_search_Marks atlas_search_Marks;
 typedef struct tuple_Link_u32 tuple_Link_u32;
 typedef struct Option_Link Option_Link;
 typedef struct tuple_Link_Link tuple_Link_Link;
@@ -334,24 +340,16 @@ typedef struct slice_Link_2 slice_Link_2;
 typedef struct slice_AtlasAllocator_2 slice_AtlasAllocator_2;
 typedef struct ControlFlow_ErrResidual_OptionsError ControlFlow_ErrResidual_OptionsError;
 typedef struct Result_OptionsError Result_OptionsError;
-typedef struct atlas_cache_Refusals atlas_cache_Refusals;
 typedef struct Option_ref_u32 Option_ref_u32;
 typedef struct tuple_u64_u64 tuple_u64_u64;
 typedef struct ControlFlow_ErrResidual_CacheError_Entry_u64 ControlFlow_ErrResidual_CacheError_Entry_u64;
 typedef struct Result_Entry_u64_CacheError Result_Entry_u64_CacheError;
-typedef struct ControlFlow_ErrResidual_CacheError_Option_Place ControlFlow_ErrResidual_CacheError_Option_Place;
-typedef struct Result_Option_Place_CacheError Result_Option_Place_CacheError;
-typedef struct Option_Inserted Option_Inserted;
-typedef struct ControlFlow_ErrResidual_CacheError_Option_Inserted ControlFlow_ErrResidual_CacheError_Option_Inserted;
-typedef struct Result_Option_Inserted_CacheError Result_Option_Inserted_CacheError;
-typedef struct ControlFlow_ErrResidual_CacheError_Option_u32 ControlFlow_ErrResidual_CacheError_Option_u32;
-typedef struct Result_Option_u32_CacheError Result_Option_u32_CacheError;
 typedef struct ControlFlow_ErrResidual_CacheError_Vec_Allocation ControlFlow_ErrResidual_CacheError_Vec_Allocation;
 typedef struct Result_Vec_Allocation_CacheError Result_Vec_Allocation_CacheError;
 typedef struct Option_ChangeList Option_ChangeList;
 typedef struct ControlFlow_ErrResidual_CacheError_Option_ChangeList ControlFlow_ErrResidual_CacheError_Option_ChangeList;
 typedef struct Result_Option_ChangeList_CacheError Result_Option_ChangeList_CacheError;
-typedef struct slice_Refusals slice_Refusals;
+typedef struct slice_Known slice_Known;
 typedef struct ControlFlow_BuildHasherDefault_FoldHasher ControlFlow_BuildHasherDefault_FoldHasher;
 typedef struct Result_BuildHasherDefault_FoldHasher Result_BuildHasherDefault_FoldHasher;
 typedef struct ControlFlow_HashMap_u64_u32_BuildHasherDefault_FoldHasher_FoldHasher ControlFlow_HashMap_u64_u32_BuildHasherDefault_FoldHasher_FoldHasher;
@@ -386,8 +384,8 @@ typedef struct atlas_sheet_Random atlas_sheet_Random;
 typedef struct slice_Option_Rectangle slice_Option_Rectangle;
 typedef struct tuple_u32_u32 tuple_u32_u32;
 typedef struct slice_Allocation_2 slice_Allocation_2;
+typedef struct slice_Marks slice_Marks;
 typedef struct slice_FreeBox_2 slice_FreeBox_2;
-typedef struct Result_Link Result_Link;
 typedef struct tuple_AtlasAllocator_Allocation tuple_AtlasAllocator_Allocation;
 typedef struct Option_tuple_AtlasAllocator_Allocation Option_tuple_AtlasAllocator_Allocation;
 typedef struct ControlFlow_ErrResidual_AtlasError_Option_tuple_AtlasAllocator_Allocation ControlFlow_ErrResidual_AtlasError_Option_tuple_AtlasAllocator_Allocation;
@@ -401,16 +399,13 @@ typedef struct Range_u64 Range_u64;
 typedef struct slice_CacheChange_u64_2 slice_CacheChange_u64_2;
 typedef struct ControlFlow_ErrResidual_CacheError_u32 ControlFlow_ErrResidual_CacheError_u32;
 typedef struct Result_u32_CacheError Result_u32_CacheError;
-typedef struct Option_Entry_u64 Option_Entry_u64;
-typedef struct ControlFlow_ErrResidual_CacheError_Option_Entry_u64 ControlFlow_ErrResidual_CacheError_Option_Entry_u64;
-typedef struct Result_Option_Entry_u64_CacheError Result_Option_Entry_u64_CacheError;
-typedef struct atlas_cache_Vacated atlas_cache_Vacated;
-typedef struct ControlFlow_ErrResidual_CacheError_Vacated ControlFlow_ErrResidual_CacheError_Vacated;
-typedef struct Result_Vacated_CacheError Result_Vacated_CacheError;
-typedef struct tuple_u32_Size tuple_u32_Size;
-typedef struct Option_tuple_u32_Size Option_tuple_u32_Size;
-typedef struct ControlFlow_ErrResidual_CacheError_Option_tuple_u32_Size ControlFlow_ErrResidual_CacheError_Option_tuple_u32_Size;
-typedef struct Result_Option_tuple_u32_Size_CacheError Result_Option_tuple_u32_Size_CacheError;
+typedef struct ControlFlow_ErrResidual_CacheError_Option_Place ControlFlow_ErrResidual_CacheError_Option_Place;
+typedef struct Result_Option_Place_CacheError Result_Option_Place_CacheError;
+typedef struct Option_Inserted Option_Inserted;
+typedef struct ControlFlow_ErrResidual_CacheError_Option_Inserted ControlFlow_ErrResidual_CacheError_Option_Inserted;
+typedef struct Result_Option_Inserted_CacheError Result_Option_Inserted_CacheError;
+typedef struct ControlFlow_ErrResidual_CacheError_Option_u32 ControlFlow_ErrResidual_CacheError_Option_u32;
+typedef struct Result_Option_u32_CacheError Result_Option_u32_CacheError;
 typedef struct tuple_u32_Allocation tuple_u32_Allocation;
 typedef struct Option_tuple_u32_Allocation Option_tuple_u32_Allocation;
 typedef struct ControlFlow_ErrResidual_CacheError_Option_tuple_u32_Allocation ControlFlow_ErrResidual_CacheError_Option_tuple_u32_Allocation;
@@ -462,10 +457,16 @@ typedef struct std_collections_Group std_collections_Group;
 typedef struct std_collections_Bucket std_collections_Bucket;
 typedef struct std_collections_eq_Self_ref_ref_u64_slice_u64 std_collections_eq_Self_ref_ref_u64_slice_u64;
 typedef struct Bound_ref_u64 Bound_ref_u64;
-typedef struct Option_tuple_u64_Size Option_tuple_u64_Size;
-typedef struct atlas_cache_Vacancy atlas_cache_Vacancy;
-typedef struct Option_Vacancy Option_Vacancy;
-typedef struct Result_Option_Vacancy Result_Option_Vacancy;
+typedef struct Option_Entry_u64 Option_Entry_u64;
+typedef struct ControlFlow_ErrResidual_CacheError_Option_Entry_u64 ControlFlow_ErrResidual_CacheError_Option_Entry_u64;
+typedef struct Result_Option_Entry_u64_CacheError Result_Option_Entry_u64_CacheError;
+typedef struct atlas_cache_Vacated atlas_cache_Vacated;
+typedef struct ControlFlow_ErrResidual_CacheError_Vacated ControlFlow_ErrResidual_CacheError_Vacated;
+typedef struct Result_Vacated_CacheError Result_Vacated_CacheError;
+typedef struct tuple_u32_Size tuple_u32_Size;
+typedef struct Option_tuple_u32_Size Option_tuple_u32_Size;
+typedef struct ControlFlow_ErrResidual_CacheError_Option_tuple_u32_Size ControlFlow_ErrResidual_CacheError_Option_tuple_u32_Size;
+typedef struct Result_Option_tuple_u32_Size_CacheError Result_Option_tuple_u32_Size_CacheError;
 typedef struct Option_tuple_u64_u32 Option_tuple_u64_u32;
 typedef struct slice_Group slice_Group;
 typedef struct ControlFlow_ErrResidual_CacheError_Option_Allocation ControlFlow_ErrResidual_CacheError_Option_Allocation;
@@ -509,9 +510,9 @@ typedef struct Result_Filling_SheetError Result_Filling_SheetError;
 typedef struct atlas_sheet_Asking atlas_sheet_Asking;
 typedef struct ControlFlow_ErrResidual_SheetError_Asking ControlFlow_ErrResidual_SheetError_Asking;
 typedef struct Result_Asking_SheetError Result_Asking_SheetError;
+typedef struct atlas_search_Halves atlas_search_Halves;
 typedef struct tuple_u64_bool tuple_u64_bool;
 typedef struct atlas_search_Step atlas_search_Step;
-typedef struct atlas_search_Halves atlas_search_Halves;
 typedef struct atlas_search_Pair atlas_search_Pair;
 typedef struct Option_ref_Global Option_ref_Global;
 typedef struct std_collections_Found std_collections_Found;
@@ -519,6 +520,10 @@ typedef struct Option_Found_2 Option_Found_2;
 typedef struct slice_Group_2 slice_Group_2;
 typedef struct slice_Bucket slice_Bucket;
 typedef struct tuple_slice_CacheChange_u64_slice_CacheChange_u64 tuple_slice_CacheChange_u64_slice_CacheChange_u64;
+typedef struct Option_tuple_u64_Size Option_tuple_u64_Size;
+typedef struct atlas_cache_Vacancy atlas_cache_Vacancy;
+typedef struct Option_Vacancy Option_Vacancy;
+typedef struct Result_Option_Vacancy Result_Option_Vacancy;
 typedef struct tuple_u64_tuple_u64_u32 tuple_u64_tuple_u64_u32;
 typedef struct Option_tuple_u64_tuple_u64_u32 Option_tuple_u64_tuple_u64_u32;
 typedef struct tuple_slice_Allocation_ref_Global tuple_slice_Allocation_ref_Global;
@@ -738,26 +743,15 @@ struct Vec_Slot {
     uint64_t cap;
 };
 
-/* atlas_search::masks::Mask */
-struct atlas_search_Mask {
-    uint64_t bits;
-};
-
-struct array_Mask_52 {
-    atlas_search_Mask at[52];
-};
-
-/* atlas_search::marks::Marks */
-struct atlas_search_Marks {
-    array_Mask_52 rows;
-    array_Mask_52 columns;
-    atlas_search_Mask used;
+struct array_u16_8 {
+    uint16_t at[8];
 };
 
 /* atlas_search::table::Table */
 struct atlas_search_Table {
     Vec_Slot heads;
-    atlas_search_Marks marks;
+    Vec_Slot marks;
+    array_u16_8 only;
     uint64_t emptied;
 };
 
@@ -1036,7 +1030,7 @@ struct atlas_cache_CacheOptions {
 /* atlas_cache::rooms::Rooms */
 struct atlas_cache_Rooms {
     Vec_Slot pages;
-    Vec_Slot refused;
+    Vec_Slot known;
     atlas_cache_CacheOptions options;
 };
 
@@ -1112,6 +1106,7 @@ struct atlas_cache_Counts {
     uint64_t hits;
     uint64_t misses;
     uint64_t evictions;
+    uint64_t forced;
 };
 
 /* atlas_cache::cache::TextureCache */
@@ -2172,6 +2167,13 @@ struct ControlFlow_ErrResidual_CacheError {
     } Break;
 };
 
+/* atlas_cache::rooms::asking::Known */
+struct atlas_cache_Known {
+    atlas_model_Size first;
+    atlas_model_Size second;
+    uint64_t live;
+};
+
 struct Iter_PlainSize {
     slice_PlainSize rest;
 };
@@ -2250,6 +2252,22 @@ struct Tried {
     void *p;
 };
 
+/* atlas_search::masks::Mask */
+struct atlas_search_Mask {
+    uint64_t bits;
+};
+
+struct array_Mask_52 {
+    atlas_search_Mask at[52];
+};
+
+/* atlas_search::marks::Marks */
+struct atlas_search_Marks {
+    array_Mask_52 rows;
+    array_Mask_52 columns;
+    atlas_search_Mask used;
+};
+
 struct tuple_Link_u32 {
     atlas_search_Link field_0;
     uint32_t field_1;
@@ -2313,12 +2331,6 @@ struct Result_OptionsError {
     } Err;
 };
 
-/* atlas_cache::rooms::asking::Refusals */
-struct atlas_cache_Refusals {
-    atlas_model_Size first;
-    atlas_model_Size second;
-};
-
 struct Option_ref_u32 {
     uint8_t tag; /* 0 None, 1 Some */
     struct {
@@ -2348,85 +2360,6 @@ struct Result_Entry_u64_CacheError {
     union {
         struct {
             atlas_entries_Entry_u64 field_0;
-        } Ok;
-        struct {
-            atlas_entries_CacheError field_0;
-        } Err;
-    } is;
-};
-
-struct ControlFlow_ErrResidual_CacheError_Option_Place {
-    uint8_t tag; /* 0 Continue, 1 Break */
-    union {
-        struct {
-            Option_Place field_0;
-        } Continue;
-        struct {
-            ErrResidual_CacheError field_0;
-        } Break;
-    } is;
-};
-
-struct Result_Option_Place_CacheError {
-    uint8_t tag; /* 0 Ok, 1 Err */
-    union {
-        struct {
-            Option_Place field_0;
-        } Ok;
-        struct {
-            atlas_entries_CacheError field_0;
-        } Err;
-    } is;
-};
-
-struct Option_Inserted {
-    uint8_t tag; /* 0 None, 1 Some */
-    struct {
-        atlas_cache_Inserted field_0;
-    } Some;
-};
-
-struct ControlFlow_ErrResidual_CacheError_Option_Inserted {
-    uint8_t tag; /* 0 Continue, 1 Break */
-    union {
-        struct {
-            Option_Inserted field_0;
-        } Continue;
-        struct {
-            ErrResidual_CacheError field_0;
-        } Break;
-    } is;
-};
-
-struct Result_Option_Inserted_CacheError {
-    uint8_t tag; /* 0 Ok, 1 Err */
-    union {
-        struct {
-            Option_Inserted field_0;
-        } Ok;
-        struct {
-            atlas_entries_CacheError field_0;
-        } Err;
-    } is;
-};
-
-struct ControlFlow_ErrResidual_CacheError_Option_u32 {
-    uint8_t tag; /* 0 Continue, 1 Break */
-    union {
-        struct {
-            Option_u32 field_0;
-        } Continue;
-        struct {
-            ErrResidual_CacheError field_0;
-        } Break;
-    } is;
-};
-
-struct Result_Option_u32_CacheError {
-    uint8_t tag; /* 0 Ok, 1 Err */
-    union {
-        struct {
-            Option_u32 field_0;
         } Ok;
         struct {
             atlas_entries_CacheError field_0;
@@ -2489,8 +2422,8 @@ struct Result_Option_ChangeList_CacheError {
     } is;
 };
 
-struct slice_Refusals {
-    const atlas_cache_Refusals *at;
+struct slice_Known {
+    const atlas_cache_Known *at;
     uint64_t len;
 };
 
@@ -2744,16 +2677,14 @@ struct slice_Allocation_2 {
     uint64_t len;
 };
 
-struct slice_FreeBox_2 {
-    guillotiere_FreeBox *at;
+struct slice_Marks {
+    const atlas_search_Marks *at;
     uint64_t len;
 };
 
-struct Result_Link {
-    uint8_t tag; /* 0 Ok, 1 Err */
-    struct {
-        atlas_search_Link field_0;
-    } Ok;
+struct slice_FreeBox_2 {
+    guillotiere_FreeBox *at;
+    uint64_t len;
 };
 
 struct tuple_AtlasAllocator_Allocation {
@@ -2854,18 +2785,11 @@ struct Result_u32_CacheError {
     } is;
 };
 
-struct Option_Entry_u64 {
-    uint8_t tag; /* 0 None, 1 Some */
-    struct {
-        atlas_entries_Entry_u64 field_0;
-    } Some;
-};
-
-struct ControlFlow_ErrResidual_CacheError_Option_Entry_u64 {
+struct ControlFlow_ErrResidual_CacheError_Option_Place {
     uint8_t tag; /* 0 Continue, 1 Break */
     union {
         struct {
-            Option_Entry_u64 field_0;
+            Option_Place field_0;
         } Continue;
         struct {
             ErrResidual_CacheError field_0;
@@ -2873,11 +2797,11 @@ struct ControlFlow_ErrResidual_CacheError_Option_Entry_u64 {
     } is;
 };
 
-struct Result_Option_Entry_u64_CacheError {
+struct Result_Option_Place_CacheError {
     uint8_t tag; /* 0 Ok, 1 Err */
     union {
         struct {
-            Option_Entry_u64 field_0;
+            Option_Place field_0;
         } Ok;
         struct {
             atlas_entries_CacheError field_0;
@@ -2885,19 +2809,18 @@ struct Result_Option_Entry_u64_CacheError {
     } is;
 };
 
-/* atlas_cache::cache::vacating::Vacated */
-struct atlas_cache_Vacated {
-    uint8_t tag; /* 0 Room, 1 Crowded, 2 Unmarked */
+struct Option_Inserted {
+    uint8_t tag; /* 0 None, 1 Some */
     struct {
-        uint32_t field_0;
-    } Room;
+        atlas_cache_Inserted field_0;
+    } Some;
 };
 
-struct ControlFlow_ErrResidual_CacheError_Vacated {
+struct ControlFlow_ErrResidual_CacheError_Option_Inserted {
     uint8_t tag; /* 0 Continue, 1 Break */
     union {
         struct {
-            atlas_cache_Vacated field_0;
+            Option_Inserted field_0;
         } Continue;
         struct {
             ErrResidual_CacheError field_0;
@@ -2905,11 +2828,11 @@ struct ControlFlow_ErrResidual_CacheError_Vacated {
     } is;
 };
 
-struct Result_Vacated_CacheError {
+struct Result_Option_Inserted_CacheError {
     uint8_t tag; /* 0 Ok, 1 Err */
     union {
         struct {
-            atlas_cache_Vacated field_0;
+            Option_Inserted field_0;
         } Ok;
         struct {
             atlas_entries_CacheError field_0;
@@ -2917,23 +2840,11 @@ struct Result_Vacated_CacheError {
     } is;
 };
 
-struct tuple_u32_Size {
-    uint32_t field_0;
-    atlas_model_Size field_1;
-};
-
-struct Option_tuple_u32_Size {
-    uint8_t tag; /* 0 None, 1 Some */
-    struct {
-        tuple_u32_Size field_0;
-    } Some;
-};
-
-struct ControlFlow_ErrResidual_CacheError_Option_tuple_u32_Size {
+struct ControlFlow_ErrResidual_CacheError_Option_u32 {
     uint8_t tag; /* 0 Continue, 1 Break */
     union {
         struct {
-            Option_tuple_u32_Size field_0;
+            Option_u32 field_0;
         } Continue;
         struct {
             ErrResidual_CacheError field_0;
@@ -2941,11 +2852,11 @@ struct ControlFlow_ErrResidual_CacheError_Option_tuple_u32_Size {
     } is;
 };
 
-struct Result_Option_tuple_u32_Size_CacheError {
+struct Result_Option_u32_CacheError {
     uint8_t tag; /* 0 Ok, 1 Err */
     union {
         struct {
-            Option_tuple_u32_Size field_0;
+            Option_u32 field_0;
         } Ok;
         struct {
             atlas_entries_CacheError field_0;
@@ -3279,32 +3190,103 @@ struct Bound_ref_u64 {
     } is;
 };
 
-struct Option_tuple_u64_Size {
+struct Option_Entry_u64 {
     uint8_t tag; /* 0 None, 1 Some */
     struct {
-        tuple_u64_Size field_0;
+        atlas_entries_Entry_u64 field_0;
     } Some;
 };
 
-/* atlas_cache::cache::vacating::Vacancy */
-struct atlas_cache_Vacancy {
-    uint32_t page;
-    atlas_model_Rectangle area;
-    uint64_t count;
+struct ControlFlow_ErrResidual_CacheError_Option_Entry_u64 {
+    uint8_t tag; /* 0 Continue, 1 Break */
+    union {
+        struct {
+            Option_Entry_u64 field_0;
+        } Continue;
+        struct {
+            ErrResidual_CacheError field_0;
+        } Break;
+    } is;
 };
 
-struct Option_Vacancy {
-    uint8_t tag; /* 0 None, 1 Some */
-    struct {
-        atlas_cache_Vacancy field_0;
-    } Some;
-};
-
-struct Result_Option_Vacancy {
+struct Result_Option_Entry_u64_CacheError {
     uint8_t tag; /* 0 Ok, 1 Err */
+    union {
+        struct {
+            Option_Entry_u64 field_0;
+        } Ok;
+        struct {
+            atlas_entries_CacheError field_0;
+        } Err;
+    } is;
+};
+
+/* atlas_cache::cache::vacating::Vacated */
+struct atlas_cache_Vacated {
+    uint8_t tag; /* 0 Room, 1 Crowded, 2 Unmarked */
     struct {
-        Option_Vacancy field_0;
-    } Ok;
+        uint32_t field_0;
+    } Room;
+};
+
+struct ControlFlow_ErrResidual_CacheError_Vacated {
+    uint8_t tag; /* 0 Continue, 1 Break */
+    union {
+        struct {
+            atlas_cache_Vacated field_0;
+        } Continue;
+        struct {
+            ErrResidual_CacheError field_0;
+        } Break;
+    } is;
+};
+
+struct Result_Vacated_CacheError {
+    uint8_t tag; /* 0 Ok, 1 Err */
+    union {
+        struct {
+            atlas_cache_Vacated field_0;
+        } Ok;
+        struct {
+            atlas_entries_CacheError field_0;
+        } Err;
+    } is;
+};
+
+struct tuple_u32_Size {
+    uint32_t field_0;
+    atlas_model_Size field_1;
+};
+
+struct Option_tuple_u32_Size {
+    uint8_t tag; /* 0 None, 1 Some */
+    struct {
+        tuple_u32_Size field_0;
+    } Some;
+};
+
+struct ControlFlow_ErrResidual_CacheError_Option_tuple_u32_Size {
+    uint8_t tag; /* 0 Continue, 1 Break */
+    union {
+        struct {
+            Option_tuple_u32_Size field_0;
+        } Continue;
+        struct {
+            ErrResidual_CacheError field_0;
+        } Break;
+    } is;
+};
+
+struct Result_Option_tuple_u32_Size_CacheError {
+    uint8_t tag; /* 0 Ok, 1 Err */
+    union {
+        struct {
+            Option_tuple_u32_Size field_0;
+        } Ok;
+        struct {
+            atlas_entries_CacheError field_0;
+        } Err;
+    } is;
 };
 
 struct Option_tuple_u64_u32 {
@@ -3613,6 +3595,12 @@ struct Result_Asking_SheetError {
     } is;
 };
 
+/* atlas_search::cells::Halves */
+struct atlas_search_Halves {
+    atlas_search_Cell low;
+    atlas_search_Cell high;
+};
+
 struct tuple_u64_bool {
     uint64_t field_0;
     bool field_1;
@@ -3622,12 +3610,6 @@ struct tuple_u64_bool {
 struct atlas_search_Step {
     uint32_t first;
     uint32_t end;
-};
-
-/* atlas_search::cells::Halves */
-struct atlas_search_Halves {
-    atlas_search_Cell low;
-    atlas_search_Cell high;
 };
 
 /* atlas_search::heap::Pair */
@@ -3670,6 +3652,34 @@ struct slice_Bucket {
 struct tuple_slice_CacheChange_u64_slice_CacheChange_u64 {
     slice_CacheChange_u64_2 field_0;
     slice_CacheChange_u64_2 field_1;
+};
+
+struct Option_tuple_u64_Size {
+    uint8_t tag; /* 0 None, 1 Some */
+    struct {
+        tuple_u64_Size field_0;
+    } Some;
+};
+
+/* atlas_cache::cache::vacating::Vacancy */
+struct atlas_cache_Vacancy {
+    uint32_t page;
+    atlas_model_Rectangle area;
+    uint64_t count;
+};
+
+struct Option_Vacancy {
+    uint8_t tag; /* 0 None, 1 Some */
+    struct {
+        atlas_cache_Vacancy field_0;
+    } Some;
+};
+
+struct Result_Option_Vacancy {
+    uint8_t tag; /* 0 Ok, 1 Err */
+    struct {
+        Option_Vacancy field_0;
+    } Ok;
 };
 
 struct tuple_u64_tuple_u64_u32 {
@@ -4654,9 +4664,9 @@ typedef char size_2[sizeof(Option_Placed) == 24 ? 1 : -1];
 typedef char size_3[sizeof(Option_Rectangle) == 20 ? 1 : -1];
 typedef char size_4[sizeof(Option_u64) == 16 ? 1 : -1];
 typedef char size_5[sizeof(Vec_Slot) == 24 ? 1 : -1];
-typedef char size_6[sizeof(atlas_allocator_AtlasAllocator) == 984 ? 1 : -1];
+typedef char size_6[sizeof(atlas_allocator_AtlasAllocator) == 184 ? 1 : -1];
 typedef char size_7[sizeof(atlas_cache_CacheChange_u64) == 96 ? 1 : -1];
-typedef char size_8[sizeof(atlas_cache_Refusals) == 16 ? 1 : -1];
+typedef char size_8[sizeof(atlas_cache_Known) == 24 ? 1 : -1];
 typedef char size_9[sizeof(atlas_entries_Entry_u64) == 56 ? 1 : -1];
 typedef char size_10[sizeof(atlas_entries_Link) == 8 ? 1 : -1];
 typedef char size_11[sizeof(atlas_maxrects_FreeBox) == 16 ? 1 : -1];
@@ -4666,39 +4676,41 @@ typedef char size_14[sizeof(atlas_model_Change) == 40 ? 1 : -1];
 typedef char size_15[sizeof(atlas_model_Rectangle) == 16 ? 1 : -1];
 typedef char size_16[sizeof(atlas_model_Size) == 8 ? 1 : -1];
 typedef char size_17[sizeof(atlas_search_Link) == 4 ? 1 : -1];
-typedef char size_18[sizeof(atlas_search_Mask) == 8 ? 1 : -1];
-typedef char size_19[sizeof(atlas_sheet_OnPage) == 32 ? 1 : -1];
-typedef char size_20[sizeof(atlas_sheet_Placed) == 20 ? 1 : -1];
-typedef char size_21[sizeof(atlas_sheet_Trial) == 32 ? 1 : -1];
-typedef char size_22[sizeof(atlas_sheet_Way) == 2 ? 1 : -1];
-typedef char size_23[sizeof(atlas_store_Slot) == 44 ? 1 : -1];
-typedef char size_24[sizeof(guillotiere_FreeBox) == 32 ? 1 : -1];
-typedef char size_25[sizeof(guillotiere_allocation) == 20 ? 1 : -1];
-typedef char size_26[sizeof(guillotiere_areas) == 16 ? 1 : -1];
-typedef char size_27[sizeof(guillotiere_atlas) == 8 ? 1 : -1];
-typedef char size_28[sizeof(guillotiere_cache) == 8 ? 1 : -1];
-typedef char size_29[sizeof(guillotiere_cache_change) == 104 ? 1 : -1];
-typedef char size_30[sizeof(guillotiere_cache_options) == 40 ? 1 : -1];
-typedef char size_31[sizeof(guillotiere_change) == 40 ? 1 : -1];
-typedef char size_32[sizeof(guillotiere_change_count) == 16 ? 1 : -1];
-typedef char size_33[sizeof(guillotiere_counts) == 24 ? 1 : -1];
-typedef char size_34[sizeof(guillotiere_maybe_placed) == 24 ? 1 : -1];
-typedef char size_35[sizeof(guillotiere_on_page) == 32 ? 1 : -1];
-typedef char size_36[sizeof(guillotiere_options) == 16 ? 1 : -1];
-typedef char size_37[sizeof(guillotiere_page_allocation) == 24 ? 1 : -1];
-typedef char size_38[sizeof(guillotiere_paged) == 8 ? 1 : -1];
-typedef char size_39[sizeof(guillotiere_place) == 40 ? 1 : -1];
-typedef char size_40[sizeof(guillotiere_placed) == 20 ? 1 : -1];
-typedef char size_41[sizeof(guillotiere_rectangle) == 16 ? 1 : -1];
-typedef char size_42[sizeof(guillotiere_sheet_options) == 48 ? 1 : -1];
-typedef char size_43[sizeof(guillotiere_simple) == 8 ? 1 : -1];
-typedef char size_44[sizeof(guillotiere_size) == 8 ? 1 : -1];
-typedef char size_45[sizeof(guillotiere_slots) == 12 ? 1 : -1];
-typedef char size_46[sizeof(std_collections_Bucket) == 8 ? 1 : -1];
-typedef char size_47[sizeof(std_collections_Group) == 64 ? 1 : -1];
-typedef char size_48[sizeof(tuple_u64_Size) == 16 ? 1 : -1];
-typedef char size_49[sizeof(uint32_t) == 4 ? 1 : -1];
-typedef char size_50[sizeof(uint64_t) == 8 ? 1 : -1];
+typedef char size_18[sizeof(atlas_search_Marks) == 840 ? 1 : -1];
+typedef char size_19[sizeof(atlas_search_Mask) == 8 ? 1 : -1];
+typedef char size_20[sizeof(atlas_sheet_OnPage) == 32 ? 1 : -1];
+typedef char size_21[sizeof(atlas_sheet_Placed) == 20 ? 1 : -1];
+typedef char size_22[sizeof(atlas_sheet_Trial) == 32 ? 1 : -1];
+typedef char size_23[sizeof(atlas_sheet_Way) == 2 ? 1 : -1];
+typedef char size_24[sizeof(atlas_store_Slot) == 44 ? 1 : -1];
+typedef char size_25[sizeof(guillotiere_FreeBox) == 32 ? 1 : -1];
+typedef char size_26[sizeof(guillotiere_allocation) == 20 ? 1 : -1];
+typedef char size_27[sizeof(guillotiere_areas) == 16 ? 1 : -1];
+typedef char size_28[sizeof(guillotiere_atlas) == 8 ? 1 : -1];
+typedef char size_29[sizeof(guillotiere_cache) == 8 ? 1 : -1];
+typedef char size_30[sizeof(guillotiere_cache_change) == 104 ? 1 : -1];
+typedef char size_31[sizeof(guillotiere_cache_options) == 40 ? 1 : -1];
+typedef char size_32[sizeof(guillotiere_change) == 40 ? 1 : -1];
+typedef char size_33[sizeof(guillotiere_change_count) == 16 ? 1 : -1];
+typedef char size_34[sizeof(guillotiere_counts) == 32 ? 1 : -1];
+typedef char size_35[sizeof(guillotiere_maybe_placed) == 24 ? 1 : -1];
+typedef char size_36[sizeof(guillotiere_on_page) == 32 ? 1 : -1];
+typedef char size_37[sizeof(guillotiere_options) == 16 ? 1 : -1];
+typedef char size_38[sizeof(guillotiere_page_allocation) == 24 ? 1 : -1];
+typedef char size_39[sizeof(guillotiere_paged) == 8 ? 1 : -1];
+typedef char size_40[sizeof(guillotiere_place) == 40 ? 1 : -1];
+typedef char size_41[sizeof(guillotiere_placed) == 20 ? 1 : -1];
+typedef char size_42[sizeof(guillotiere_rectangle) == 16 ? 1 : -1];
+typedef char size_43[sizeof(guillotiere_sheet_options) == 48 ? 1 : -1];
+typedef char size_44[sizeof(guillotiere_simple) == 8 ? 1 : -1];
+typedef char size_45[sizeof(guillotiere_size) == 8 ? 1 : -1];
+typedef char size_46[sizeof(guillotiere_slots) == 12 ? 1 : -1];
+typedef char size_47[sizeof(std_collections_Bucket) == 8 ? 1 : -1];
+typedef char size_48[sizeof(std_collections_Group) == 64 ? 1 : -1];
+typedef char size_49[sizeof(tuple_u64_Size) == 16 ? 1 : -1];
+typedef char size_50[sizeof(uint16_t) == 2 ? 1 : -1];
+typedef char size_51[sizeof(uint32_t) == 4 ? 1 : -1];
+typedef char size_52[sizeof(uint64_t) == 8 ? 1 : -1];
 #endif
 
 /* The heap: malloc, realloc and free, or what guillotiere_set_memory names. A block of its begins with its whole size, since the caller of
@@ -5077,11 +5089,12 @@ MAKER guillotiere_cache_options new_guillotiere_cache_options(guillotiere_size p
     return it;
 }
 
-MAKER guillotiere_counts new_guillotiere_counts(uint64_t hits, uint64_t misses, uint64_t evictions) {
+MAKER guillotiere_counts new_guillotiere_counts(uint64_t hits, uint64_t misses, uint64_t evictions, uint64_t forced) {
     guillotiere_counts it;
     it.hits = hits;
     it.misses = misses;
     it.evictions = evictions;
+    it.forced = forced;
     return it;
 }
 
@@ -5990,6 +6003,13 @@ MAKER atlas_model_Point new_atlas_model_Point(uint32_t x, uint32_t y) {
     return it;
 }
 
+MAKER array_u16_8 all_array_u16_8(uint16_t each) {
+    array_u16_8 it;
+    uint64_t i;
+    for (i = 0; i < 8; i++) it.at[i] = each;
+    return it;
+}
+
 MAKER slice_FreeBox new_slice_FreeBox(const guillotiere_FreeBox *at, uint64_t len) {
     slice_FreeBox it;
     it.at = at;
@@ -6080,11 +6100,12 @@ MAKER BuildHasherDefault_FoldHasher new_BuildHasherDefault_FoldHasher(FoldHasher
     return it;
 }
 
-MAKER atlas_cache_Counts new_atlas_cache_Counts(uint64_t hits, uint64_t misses, uint64_t evictions) {
+MAKER atlas_cache_Counts new_atlas_cache_Counts(uint64_t hits, uint64_t misses, uint64_t evictions, uint64_t forced) {
     atlas_cache_Counts it;
     it.hits = hits;
     it.misses = misses;
     it.evictions = evictions;
+    it.forced = forced;
     return it;
 }
 
@@ -6123,19 +6144,6 @@ MAKER atlas_cache_Inserted new_atlas_cache_Inserted_Placed(atlas_cache_Place fie
     atlas_cache_Inserted it;
     it.tag = 0u;
     it.is.Placed.field_0 = field_0;
-    return it;
-}
-
-MAKER atlas_cache_Inserted new_atlas_cache_Inserted_FrameFull(void) {
-    atlas_cache_Inserted it;
-    it.tag = 2u;
-    return it;
-}
-
-MAKER atlas_cache_Refusals new_atlas_cache_Refusals(atlas_model_Size first, atlas_model_Size second) {
-    atlas_cache_Refusals it;
-    it.first = first;
-    it.second = second;
     return it;
 }
 
@@ -6628,95 +6636,9 @@ MAKER ControlFlow_ErrResidual_CacheError_Entry_u64 new_ControlFlow_ErrResidual_C
     return it;
 }
 
-MAKER Result_Option_Place_CacheError new_Result_Option_Place_CacheError_Ok(Option_Place field_0) {
-    Result_Option_Place_CacheError it;
-    it.tag = 0u;
-    it.is.Ok.field_0 = field_0;
-    return it;
-}
-
-MAKER ControlFlow_ErrResidual_CacheError_Option_Place new_ControlFlow_ErrResidual_CacheError_Option_Place_Continue(Option_Place field_0) {
-    ControlFlow_ErrResidual_CacheError_Option_Place it;
-    it.tag = 0u;
-    it.is.Continue.field_0 = field_0;
-    return it;
-}
-
-MAKER ControlFlow_ErrResidual_CacheError_Option_Place new_ControlFlow_ErrResidual_CacheError_Option_Place_Break(ErrResidual_CacheError field_0) {
-    ControlFlow_ErrResidual_CacheError_Option_Place it;
-    it.tag = 1u;
-    it.is.Break.field_0 = field_0;
-    return it;
-}
-
-MAKER Option_Inserted new_Option_Inserted_None(void) {
-    Option_Inserted it;
-    it.tag = 0u;
-    return it;
-}
-
-MAKER Result_Option_Inserted_CacheError new_Result_Option_Inserted_CacheError_Ok(Option_Inserted field_0) {
-    Result_Option_Inserted_CacheError it;
-    it.tag = 0u;
-    it.is.Ok.field_0 = field_0;
-    return it;
-}
-
-MAKER Option_Inserted new_Option_Inserted_Some(atlas_cache_Inserted field_0) {
-    Option_Inserted it;
-    it.tag = 1u;
-    it.Some.field_0 = field_0;
-    return it;
-}
-
-MAKER ControlFlow_ErrResidual_CacheError_Option_Inserted new_ControlFlow_ErrResidual_CacheError_Option_Inserted_Continue(Option_Inserted field_0) {
-    ControlFlow_ErrResidual_CacheError_Option_Inserted it;
-    it.tag = 0u;
-    it.is.Continue.field_0 = field_0;
-    return it;
-}
-
-MAKER ControlFlow_ErrResidual_CacheError_Option_Inserted new_ControlFlow_ErrResidual_CacheError_Option_Inserted_Break(ErrResidual_CacheError field_0) {
-    ControlFlow_ErrResidual_CacheError_Option_Inserted it;
-    it.tag = 1u;
-    it.is.Break.field_0 = field_0;
-    return it;
-}
-
-MAKER atlas_cache_CacheChange_u64 new_atlas_cache_CacheChange_u64_PageGrown(uint32_t page, atlas_model_Size size) {
-    atlas_cache_CacheChange_u64 it;
-    it.tag = 1u;
-    it.is.PageGrown.page = page;
-    it.is.PageGrown.size = size;
-    return it;
-}
-
-MAKER Result_Option_u32_CacheError new_Result_Option_u32_CacheError_Ok(Option_u32 field_0) {
-    Result_Option_u32_CacheError it;
-    it.tag = 0u;
-    it.is.Ok.field_0 = field_0;
-    return it;
-}
-
-MAKER atlas_cache_CacheChange_u64 new_atlas_cache_CacheChange_u64_PageAdded(uint32_t page, atlas_model_Size size) {
-    atlas_cache_CacheChange_u64 it;
-    it.tag = 0u;
-    it.is.PageAdded.page = page;
-    it.is.PageAdded.size = size;
-    return it;
-}
-
-MAKER ControlFlow_ErrResidual_CacheError_Option_u32 new_ControlFlow_ErrResidual_CacheError_Option_u32_Continue(Option_u32 field_0) {
-    ControlFlow_ErrResidual_CacheError_Option_u32 it;
-    it.tag = 0u;
-    it.is.Continue.field_0 = field_0;
-    return it;
-}
-
-MAKER ControlFlow_ErrResidual_CacheError_Option_u32 new_ControlFlow_ErrResidual_CacheError_Option_u32_Break(ErrResidual_CacheError field_0) {
-    ControlFlow_ErrResidual_CacheError_Option_u32 it;
-    it.tag = 1u;
-    it.is.Break.field_0 = field_0;
+MAKER atlas_cache_Inserted new_atlas_cache_Inserted_FrameFull(void) {
+    atlas_cache_Inserted it;
+    it.tag = 2u;
     return it;
 }
 
@@ -6724,6 +6646,14 @@ MAKER atlas_entries_Link new_atlas_entries_Link(uint32_t previous, uint32_t next
     atlas_entries_Link it;
     it.previous = previous;
     it.next = next;
+    return it;
+}
+
+MAKER atlas_cache_Known new_atlas_cache_Known(atlas_model_Size first, atlas_model_Size second, uint64_t live) {
+    atlas_cache_Known it;
+    it.first = first;
+    it.second = second;
+    it.live = live;
     return it;
 }
 
@@ -6897,6 +6827,13 @@ MAKER atlas_entries_CacheError new_atlas_entries_CacheError_Slots(void) {
     return it;
 }
 
+MAKER slice_Known new_slice_Known(const atlas_cache_Known *at, uint64_t len) {
+    slice_Known it;
+    it.at = at;
+    it.len = len;
+    return it;
+}
+
 MAKER atlas_sheet_SheetError new_atlas_sheet_SheetError_Memory(void) {
     atlas_sheet_SheetError it;
     it.tag = 0u;
@@ -7036,17 +6973,17 @@ MAKER atlas_store_NodeKind new_atlas_store_NodeKind_Alloc(void) {
     return it;
 }
 
-MAKER slice_FreeBox_2 new_slice_FreeBox_2(guillotiere_FreeBox *at, uint64_t len) {
-    slice_FreeBox_2 it;
+MAKER slice_Marks new_slice_Marks(const atlas_search_Marks *at, uint64_t len) {
+    slice_Marks it;
     it.at = at;
     it.len = len;
     return it;
 }
 
-MAKER Result_Link new_Result_Link_Ok(atlas_search_Link field_0) {
-    Result_Link it;
-    it.tag = 0u;
-    it.Ok.field_0 = field_0;
+MAKER slice_FreeBox_2 new_slice_FreeBox_2(guillotiere_FreeBox *at, uint64_t len) {
+    slice_FreeBox_2 it;
+    it.at = at;
+    it.len = len;
     return it;
 }
 
@@ -7127,123 +7064,93 @@ MAKER Result_Entry_u64_CacheError new_Result_Entry_u64_CacheError_Err(atlas_entr
     return it;
 }
 
-MAKER Option_Entry_u64 new_Option_Entry_u64_None(void) {
-    Option_Entry_u64 it;
-    it.tag = 0u;
-    return it;
-}
-
-MAKER Option_Entry_u64 new_Option_Entry_u64_Some(atlas_entries_Entry_u64 field_0) {
-    Option_Entry_u64 it;
-    it.tag = 1u;
-    it.Some.field_0 = field_0;
-    return it;
-}
-
-MAKER Result_Option_Place_CacheError new_Result_Option_Place_CacheError_Err(atlas_entries_CacheError field_0) {
+MAKER Result_Option_Place_CacheError new_Result_Option_Place_CacheError_Ok(Option_Place field_0) {
     Result_Option_Place_CacheError it;
-    it.tag = 1u;
-    it.is.Err.field_0 = field_0;
-    return it;
-}
-
-MAKER atlas_cache_Vacated new_atlas_cache_Vacated_Crowded(void) {
-    atlas_cache_Vacated it;
-    it.tag = 1u;
-    return it;
-}
-
-MAKER Result_Vacated_CacheError new_Result_Vacated_CacheError_Ok(atlas_cache_Vacated field_0) {
-    Result_Vacated_CacheError it;
     it.tag = 0u;
     it.is.Ok.field_0 = field_0;
     return it;
 }
 
-MAKER atlas_cache_Vacated new_atlas_cache_Vacated_Unmarked(void) {
-    atlas_cache_Vacated it;
-    it.tag = 2u;
-    return it;
-}
-
-MAKER atlas_cache_Vacated new_atlas_cache_Vacated_Room(uint32_t field_0) {
-    atlas_cache_Vacated it;
-    it.tag = 0u;
-    it.Room.field_0 = field_0;
-    return it;
-}
-
-MAKER ControlFlow_ErrResidual_CacheError_Vacated new_ControlFlow_ErrResidual_CacheError_Vacated_Continue(atlas_cache_Vacated field_0) {
-    ControlFlow_ErrResidual_CacheError_Vacated it;
+MAKER ControlFlow_ErrResidual_CacheError_Option_Place new_ControlFlow_ErrResidual_CacheError_Option_Place_Continue(Option_Place field_0) {
+    ControlFlow_ErrResidual_CacheError_Option_Place it;
     it.tag = 0u;
     it.is.Continue.field_0 = field_0;
     return it;
 }
 
-MAKER ControlFlow_ErrResidual_CacheError_Vacated new_ControlFlow_ErrResidual_CacheError_Vacated_Break(ErrResidual_CacheError field_0) {
-    ControlFlow_ErrResidual_CacheError_Vacated it;
+MAKER ControlFlow_ErrResidual_CacheError_Option_Place new_ControlFlow_ErrResidual_CacheError_Option_Place_Break(ErrResidual_CacheError field_0) {
+    ControlFlow_ErrResidual_CacheError_Option_Place it;
     it.tag = 1u;
     it.is.Break.field_0 = field_0;
     return it;
 }
 
-MAKER Result_Option_Inserted_CacheError new_Result_Option_Inserted_CacheError_Err(atlas_entries_CacheError field_0) {
-    Result_Option_Inserted_CacheError it;
-    it.tag = 1u;
-    it.is.Err.field_0 = field_0;
-    return it;
-}
-
-MAKER Result_Option_u32_CacheError new_Result_Option_u32_CacheError_Err(atlas_entries_CacheError field_0) {
-    Result_Option_u32_CacheError it;
-    it.tag = 1u;
-    it.is.Err.field_0 = field_0;
-    return it;
-}
-
-MAKER Option_tuple_u32_Size new_Option_tuple_u32_Size_None(void) {
-    Option_tuple_u32_Size it;
+MAKER Option_Inserted new_Option_Inserted_None(void) {
+    Option_Inserted it;
     it.tag = 0u;
     return it;
 }
 
-MAKER Result_Option_tuple_u32_Size_CacheError new_Result_Option_tuple_u32_Size_CacheError_Ok(Option_tuple_u32_Size field_0) {
-    Result_Option_tuple_u32_Size_CacheError it;
+MAKER Result_Option_Inserted_CacheError new_Result_Option_Inserted_CacheError_Ok(Option_Inserted field_0) {
+    Result_Option_Inserted_CacheError it;
     it.tag = 0u;
     it.is.Ok.field_0 = field_0;
     return it;
 }
 
-MAKER Result_Option_tuple_u32_Size_CacheError new_Result_Option_tuple_u32_Size_CacheError_Err(atlas_entries_CacheError field_0) {
-    Result_Option_tuple_u32_Size_CacheError it;
-    it.tag = 1u;
-    it.is.Err.field_0 = field_0;
-    return it;
-}
-
-MAKER tuple_u32_Size new_tuple_u32_Size(uint32_t field_0, atlas_model_Size field_1) {
-    tuple_u32_Size it;
-    it.field_0 = field_0;
-    it.field_1 = field_1;
-    return it;
-}
-
-MAKER Option_tuple_u32_Size new_Option_tuple_u32_Size_Some(tuple_u32_Size field_0) {
-    Option_tuple_u32_Size it;
+MAKER Option_Inserted new_Option_Inserted_Some(atlas_cache_Inserted field_0) {
+    Option_Inserted it;
     it.tag = 1u;
     it.Some.field_0 = field_0;
     return it;
 }
 
-MAKER ControlFlow_ErrResidual_CacheError_Option_tuple_u32_Size new_ControlFlow_ErrResidual_CacheError_Option_tuple_u32_Size_Continue(Option_tuple_u32_Size field_0) {
-    ControlFlow_ErrResidual_CacheError_Option_tuple_u32_Size it;
+MAKER ControlFlow_ErrResidual_CacheError_Option_Inserted new_ControlFlow_ErrResidual_CacheError_Option_Inserted_Continue(Option_Inserted field_0) {
+    ControlFlow_ErrResidual_CacheError_Option_Inserted it;
     it.tag = 0u;
     it.is.Continue.field_0 = field_0;
     return it;
 }
 
-MAKER ControlFlow_ErrResidual_CacheError_Option_tuple_u32_Size new_ControlFlow_ErrResidual_CacheError_Option_tuple_u32_Size_Break(ErrResidual_CacheError field_0) {
-    ControlFlow_ErrResidual_CacheError_Option_tuple_u32_Size it;
+MAKER ControlFlow_ErrResidual_CacheError_Option_Inserted new_ControlFlow_ErrResidual_CacheError_Option_Inserted_Break(ErrResidual_CacheError field_0) {
+    ControlFlow_ErrResidual_CacheError_Option_Inserted it;
+    it.tag = 1u;
+    it.is.Break.field_0 = field_0;
+    return it;
+}
+
+MAKER atlas_cache_CacheChange_u64 new_atlas_cache_CacheChange_u64_PageGrown(uint32_t page, atlas_model_Size size) {
+    atlas_cache_CacheChange_u64 it;
+    it.tag = 1u;
+    it.is.PageGrown.page = page;
+    it.is.PageGrown.size = size;
+    return it;
+}
+
+MAKER Result_Option_u32_CacheError new_Result_Option_u32_CacheError_Ok(Option_u32 field_0) {
+    Result_Option_u32_CacheError it;
+    it.tag = 0u;
+    it.is.Ok.field_0 = field_0;
+    return it;
+}
+
+MAKER atlas_cache_CacheChange_u64 new_atlas_cache_CacheChange_u64_PageAdded(uint32_t page, atlas_model_Size size) {
+    atlas_cache_CacheChange_u64 it;
+    it.tag = 0u;
+    it.is.PageAdded.page = page;
+    it.is.PageAdded.size = size;
+    return it;
+}
+
+MAKER ControlFlow_ErrResidual_CacheError_Option_u32 new_ControlFlow_ErrResidual_CacheError_Option_u32_Continue(Option_u32 field_0) {
+    ControlFlow_ErrResidual_CacheError_Option_u32 it;
+    it.tag = 0u;
+    it.is.Continue.field_0 = field_0;
+    return it;
+}
+
+MAKER ControlFlow_ErrResidual_CacheError_Option_u32 new_ControlFlow_ErrResidual_CacheError_Option_u32_Break(ErrResidual_CacheError field_0) {
+    ControlFlow_ErrResidual_CacheError_Option_u32 it;
     it.tag = 1u;
     it.is.Break.field_0 = field_0;
     return it;
@@ -7322,13 +7229,6 @@ MAKER ControlFlow_ErrResidual_CacheError_ChangeList new_ControlFlow_ErrResidual_
     ControlFlow_ErrResidual_CacheError_ChangeList it;
     it.tag = 1u;
     it.is.Break.field_0 = field_0;
-    return it;
-}
-
-MAKER slice_Refusals new_slice_Refusals(const atlas_cache_Refusals *at, uint64_t len) {
-    slice_Refusals it;
-    it.at = at;
-    it.len = len;
     return it;
 }
 
@@ -7749,37 +7649,125 @@ MAKER Result_u32_CacheError new_Result_u32_CacheError_Err(atlas_entries_CacheErr
     return it;
 }
 
-MAKER tuple_u64_Size new_tuple_u64_Size(uint64_t field_0, atlas_model_Size field_1) {
-    tuple_u64_Size it;
-    it.field_0 = field_0;
-    it.field_1 = field_1;
+MAKER Option_Entry_u64 new_Option_Entry_u64_None(void) {
+    Option_Entry_u64 it;
+    it.tag = 0u;
     return it;
 }
 
-MAKER Option_tuple_u64_Size new_Option_tuple_u64_Size_Some(tuple_u64_Size field_0) {
-    Option_tuple_u64_Size it;
+MAKER Option_Entry_u64 new_Option_Entry_u64_Some(atlas_entries_Entry_u64 field_0) {
+    Option_Entry_u64 it;
     it.tag = 1u;
     it.Some.field_0 = field_0;
     return it;
 }
 
-MAKER Option_tuple_u64_Size new_Option_tuple_u64_Size_None(void) {
-    Option_tuple_u64_Size it;
-    it.tag = 0u;
-    return it;
-}
-
-MAKER Result_Option_Vacancy new_Result_Option_Vacancy_Ok(Option_Vacancy field_0) {
-    Result_Option_Vacancy it;
-    it.tag = 0u;
-    it.Ok.field_0 = field_0;
-    return it;
-}
-
-MAKER Result_Vacated_CacheError new_Result_Vacated_CacheError_Err(atlas_entries_CacheError field_0) {
-    Result_Vacated_CacheError it;
+MAKER Result_Option_Place_CacheError new_Result_Option_Place_CacheError_Err(atlas_entries_CacheError field_0) {
+    Result_Option_Place_CacheError it;
     it.tag = 1u;
     it.is.Err.field_0 = field_0;
+    return it;
+}
+
+MAKER atlas_cache_Vacated new_atlas_cache_Vacated_Crowded(void) {
+    atlas_cache_Vacated it;
+    it.tag = 1u;
+    return it;
+}
+
+MAKER Result_Vacated_CacheError new_Result_Vacated_CacheError_Ok(atlas_cache_Vacated field_0) {
+    Result_Vacated_CacheError it;
+    it.tag = 0u;
+    it.is.Ok.field_0 = field_0;
+    return it;
+}
+
+MAKER atlas_cache_Vacated new_atlas_cache_Vacated_Unmarked(void) {
+    atlas_cache_Vacated it;
+    it.tag = 2u;
+    return it;
+}
+
+MAKER atlas_cache_Vacated new_atlas_cache_Vacated_Room(uint32_t field_0) {
+    atlas_cache_Vacated it;
+    it.tag = 0u;
+    it.Room.field_0 = field_0;
+    return it;
+}
+
+MAKER ControlFlow_ErrResidual_CacheError_Vacated new_ControlFlow_ErrResidual_CacheError_Vacated_Continue(atlas_cache_Vacated field_0) {
+    ControlFlow_ErrResidual_CacheError_Vacated it;
+    it.tag = 0u;
+    it.is.Continue.field_0 = field_0;
+    return it;
+}
+
+MAKER ControlFlow_ErrResidual_CacheError_Vacated new_ControlFlow_ErrResidual_CacheError_Vacated_Break(ErrResidual_CacheError field_0) {
+    ControlFlow_ErrResidual_CacheError_Vacated it;
+    it.tag = 1u;
+    it.is.Break.field_0 = field_0;
+    return it;
+}
+
+MAKER Result_Option_Inserted_CacheError new_Result_Option_Inserted_CacheError_Err(atlas_entries_CacheError field_0) {
+    Result_Option_Inserted_CacheError it;
+    it.tag = 1u;
+    it.is.Err.field_0 = field_0;
+    return it;
+}
+
+MAKER Result_Option_u32_CacheError new_Result_Option_u32_CacheError_Err(atlas_entries_CacheError field_0) {
+    Result_Option_u32_CacheError it;
+    it.tag = 1u;
+    it.is.Err.field_0 = field_0;
+    return it;
+}
+
+MAKER Option_tuple_u32_Size new_Option_tuple_u32_Size_None(void) {
+    Option_tuple_u32_Size it;
+    it.tag = 0u;
+    return it;
+}
+
+MAKER Result_Option_tuple_u32_Size_CacheError new_Result_Option_tuple_u32_Size_CacheError_Ok(Option_tuple_u32_Size field_0) {
+    Result_Option_tuple_u32_Size_CacheError it;
+    it.tag = 0u;
+    it.is.Ok.field_0 = field_0;
+    return it;
+}
+
+MAKER Result_Option_tuple_u32_Size_CacheError new_Result_Option_tuple_u32_Size_CacheError_Err(atlas_entries_CacheError field_0) {
+    Result_Option_tuple_u32_Size_CacheError it;
+    it.tag = 1u;
+    it.is.Err.field_0 = field_0;
+    return it;
+}
+
+MAKER tuple_u32_Size new_tuple_u32_Size(uint32_t field_0, atlas_model_Size field_1) {
+    tuple_u32_Size it;
+    it.field_0 = field_0;
+    it.field_1 = field_1;
+    return it;
+}
+
+MAKER Option_tuple_u32_Size new_Option_tuple_u32_Size_Some(tuple_u32_Size field_0) {
+    Option_tuple_u32_Size it;
+    it.tag = 1u;
+    it.Some.field_0 = field_0;
+    return it;
+}
+
+MAKER ControlFlow_ErrResidual_CacheError_Option_tuple_u32_Size new_ControlFlow_ErrResidual_CacheError_Option_tuple_u32_Size_Continue(Option_tuple_u32_Size field_0) {
+    ControlFlow_ErrResidual_CacheError_Option_tuple_u32_Size it;
+    it.tag = 0u;
+    it.is.Continue.field_0 = field_0;
+    return it;
+}
+
+MAKER ControlFlow_ErrResidual_CacheError_Option_tuple_u32_Size new_ControlFlow_ErrResidual_CacheError_Option_tuple_u32_Size_Break(ErrResidual_CacheError field_0) {
+    ControlFlow_ErrResidual_CacheError_Option_tuple_u32_Size it;
+    it.tag = 1u;
+    it.is.Break.field_0 = field_0;
     return it;
 }
 
@@ -8160,6 +8148,13 @@ MAKER ControlFlow_ErrResidual_SheetError_Asking new_ControlFlow_ErrResidual_Shee
     return it;
 }
 
+MAKER atlas_search_Halves new_atlas_search_Halves(atlas_search_Cell low, atlas_search_Cell high) {
+    atlas_search_Halves it;
+    it.low = low;
+    it.high = high;
+    return it;
+}
+
 MAKER tuple_u64_bool new_tuple_u64_bool(uint64_t field_0, bool field_1) {
     tuple_u64_bool it;
     it.field_0 = field_0;
@@ -8178,13 +8173,6 @@ MAKER atlas_search_Pair new_atlas_search_Pair(atlas_search_Link first, atlas_sea
     atlas_search_Pair it;
     it.first = first;
     it.rest = rest;
-    return it;
-}
-
-MAKER atlas_search_Halves new_atlas_search_Halves(atlas_search_Cell low, atlas_search_Cell high) {
-    atlas_search_Halves it;
-    it.low = low;
-    it.high = high;
     return it;
 }
 
@@ -8289,30 +8277,37 @@ MAKER Result_AllocFailed_Entry_u64 new_Result_AllocFailed_Entry_u64_Ok(void) {
     return it;
 }
 
-MAKER Result_Option_Vacancy new_Result_Option_Vacancy_Err(void) {
-    Result_Option_Vacancy it;
-    it.tag = 1u;
+MAKER tuple_u64_Size new_tuple_u64_Size(uint64_t field_0, atlas_model_Size field_1) {
+    tuple_u64_Size it;
+    it.field_0 = field_0;
+    it.field_1 = field_1;
     return it;
 }
 
-MAKER Option_Vacancy new_Option_Vacancy_None(void) {
-    Option_Vacancy it;
+MAKER Option_tuple_u64_Size new_Option_tuple_u64_Size_Some(tuple_u64_Size field_0) {
+    Option_tuple_u64_Size it;
+    it.tag = 1u;
+    it.Some.field_0 = field_0;
+    return it;
+}
+
+MAKER Option_tuple_u64_Size new_Option_tuple_u64_Size_None(void) {
+    Option_tuple_u64_Size it;
     it.tag = 0u;
     return it;
 }
 
-MAKER atlas_cache_Vacancy new_atlas_cache_Vacancy(uint32_t page, atlas_model_Rectangle area, uint64_t count) {
-    atlas_cache_Vacancy it;
-    it.page = page;
-    it.area = area;
-    it.count = count;
+MAKER Result_Option_Vacancy new_Result_Option_Vacancy_Ok(Option_Vacancy field_0) {
+    Result_Option_Vacancy it;
+    it.tag = 0u;
+    it.Ok.field_0 = field_0;
     return it;
 }
 
-MAKER Option_Vacancy new_Option_Vacancy_Some(atlas_cache_Vacancy field_0) {
-    Option_Vacancy it;
+MAKER Result_Vacated_CacheError new_Result_Vacated_CacheError_Err(atlas_entries_CacheError field_0) {
+    Result_Vacated_CacheError it;
     it.tag = 1u;
-    it.Some.field_0 = field_0;
+    it.is.Err.field_0 = field_0;
     return it;
 }
 
@@ -8668,6 +8663,33 @@ MAKER ControlFlow_ErrResidual_AllocFailed_Link new_ControlFlow_ErrResidual_Alloc
     ControlFlow_ErrResidual_AllocFailed_Link it;
     it.tag = 1u;
     it.Break.field_0 = field_0;
+    return it;
+}
+
+MAKER Result_Option_Vacancy new_Result_Option_Vacancy_Err(void) {
+    Result_Option_Vacancy it;
+    it.tag = 1u;
+    return it;
+}
+
+MAKER Option_Vacancy new_Option_Vacancy_None(void) {
+    Option_Vacancy it;
+    it.tag = 0u;
+    return it;
+}
+
+MAKER atlas_cache_Vacancy new_atlas_cache_Vacancy(uint32_t page, atlas_model_Rectangle area, uint64_t count) {
+    atlas_cache_Vacancy it;
+    it.page = page;
+    it.area = area;
+    it.count = count;
+    return it;
+}
+
+MAKER Option_Vacancy new_Option_Vacancy_Some(atlas_cache_Vacancy field_0) {
+    Option_Vacancy it;
+    it.tag = 1u;
+    it.Some.field_0 = field_0;
     return it;
 }
 
@@ -9842,6 +9864,7 @@ SMALL Result_Box_AtlasAllocator_AllocFailed_AtlasAllocator std_alloc_boxed_Box_n
 SMALL void guillotiere_c_atlas_handle_AtlasHandle_put(guillotiere_atlas *self, Box_AtlasAllocator atlas);
 SMALL void std_alloc_vec_Vec_drop_Slot(Vec_Slot given_1);
 SMALL void std_alloc_vec_Vec_drop_Link(Vec_Slot given_1);
+SMALL void std_alloc_vec_Vec_drop_Marks(Vec_Slot given_1);
 SMALL atlas_allocator_AtlasAllocator *std_alloc_boxed_deref_mut_BoxDerefMut_deref_mut_AtlasAllocator(Box_AtlasAllocator *self);
 SMALL atlas_model_Size atlas_model_geometry_size2(uint32_t width, uint32_t height);
 SMALL Result_Option_Allocation_AtlasError atlas_allocator_atlas_AtlasAllocator_allocate(atlas_allocator_AtlasAllocator *self,
@@ -9944,7 +9967,7 @@ SMALL uint32_t guillotiere_c_plain_cache_status_of_options_error(atlas_cache_Opt
 SMALL Result_Box_FollowedCache_AllocFailed_FollowedCache std_alloc_boxed_Box_new_FollowedCache(const guillotiere_c_FollowedCache x);
 SMALL void guillotiere_c_cache_handle_CacheHandle_put(guillotiere_cache *self, Box_AtlasAllocator cache);
 SMALL void std_alloc_vec_Vec_drop_AtlasAllocator(Vec_Slot given_1);
-SMALL void std_alloc_vec_Vec_drop_Refusals(Vec_Slot given_1);
+SMALL void std_alloc_vec_Vec_drop_Known(Vec_Slot given_1);
 SMALL void std_collections_hash_map_HashMap_drop_u64_u32_BuildHasherDefault_FoldHasher_FoldHasher(const std_collections_HashMap_u64_u32_BuildHasherDefault_FoldHasher_FoldHasher given_1);
 SMALL void std_alloc_vec_Vec_drop_Link_2(Vec_Slot given_1);
 SMALL void std_alloc_vec_Vec_drop_Entry_u64(Vec_Slot given_1);
@@ -10040,6 +10063,8 @@ SMALL void std_alloc_vec_Vec_clear_Slot(Vec_Slot *self);
 SMALL void std_alloc_vec_Vec_destroy_empty_Slot(Vec_Slot self);
 SMALL void std_alloc_vec_Vec_clear_Link(Vec_Slot *self);
 SMALL void std_alloc_vec_Vec_destroy_empty_Link(Vec_Slot self);
+SMALL void std_alloc_vec_Vec_clear_Marks(Vec_Slot *self);
+SMALL void std_alloc_vec_Vec_destroy_empty_Marks(Vec_Slot self);
 PART Result_Option_Allocation_AtlasError atlas_allocator_atlas_AtlasAllocator_request(atlas_allocator_AtlasAllocator *self,
         atlas_model_Size requested_size);
 SMALL uint32_t atlas_model_allocation_AllocId_serialize(const atlas_model_AllocId *self);
@@ -10093,6 +10118,7 @@ SMALL Result_ChangeList_AtlasError atlas_allocator_atlas_rearranging_refit(atlas
 SMALL ControlFlow_ErrResidual_AtlasError_ChangeList core_result_ResultTry_branch_ChangeList_AtlasError(Result_ChangeList_AtlasError self);
 SMALL void std_alloc_vec_Vec_drop_Slot_2(Vec_Slot given_1);
 SMALL void std_alloc_vec_Vec_drop_Link_3(Vec_Slot given_1);
+SMALL void std_alloc_vec_Vec_drop_Marks_2(Vec_Slot given_1);
 SMALL void atlas_allocator_atlas_AtlasAllocator_become_like(atlas_allocator_AtlasAllocator *self,
         const atlas_allocator_AtlasAllocator other);
 SMALL Result_Vec_AllocId std_alloc_vec_Vec_with_capacity_AllocId(uint64_t capacity);
@@ -10135,6 +10161,7 @@ SMALL Result_AtlasError guillotiere_simple_changes_file_free(guillotiere_FreeBox
         const atlas_search_Scale *options);
 SMALL void std_alloc_vec_Vec_drop_FreeBox_2(Vec_Slot given_1);
 SMALL void std_alloc_vec_Vec_drop_Link_4(Vec_Slot given_1);
+SMALL void std_alloc_vec_Vec_drop_Marks_3(Vec_Slot given_1);
 SMALL slice_FreeBox std_alloc_vec_derefs_VecDerefSlice_deref_FreeBox(const Vec_Slot *self);
 SMALL bool guillotiere_simple_is_listed(slice_FreeBox entries, const atlas_model_Rectangle *rectangle);
 SMALL Result_PagedAtlas_PagesError atlas_pages_paged_PagedAtlas_with_options(atlas_model_Size page_size,
@@ -10175,8 +10202,8 @@ SMALL guillotiere_cache core_mem_replace_CacheHandle(guillotiere_cache *dest, gu
 SMALL void guillotiere_c_cache_handle_CacheHandle_forget(guillotiere_cache handle);
 SMALL void std_alloc_vec_Vec_clear_AtlasAllocator(Vec_Slot *self);
 SMALL void std_alloc_vec_Vec_destroy_empty_AtlasAllocator(Vec_Slot self);
-SMALL void std_alloc_vec_Vec_clear_Refusals(Vec_Slot *self);
-SMALL void std_alloc_vec_Vec_destroy_empty_Refusals(Vec_Slot self);
+SMALL void std_alloc_vec_Vec_clear_Known(Vec_Slot *self);
+SMALL void std_alloc_vec_Vec_destroy_empty_Known(Vec_Slot self);
 SMALL void std_collections_columns_Columns_drop_u64_u32(std_collections_Columns_u64_u32 given_1);
 SMALL void std_collections_index_table_IndexTable_drop(const std_collections_IndexTable given_1);
 SMALL void core_mem_drop_BuildHasherDefault_FoldHasher(BuildHasherDefault_FoldHasher x);
@@ -10283,6 +10310,10 @@ SMALL Result_Store core_result_ResultFromResidualErrResidual_from_residual_Store
 SMALL Result_Table atlas_search_table_Table_copy(const atlas_search_Table *self);
 SMALL ControlFlow_Table core_result_ResultTry_branch_Table(const Result_Table self);
 SMALL void std_alloc_vec_Vec_drop_Slot_3(Vec_Slot given_1);
+SMALL uint64_t std_alloc_vec_Vec_capacity_Slot(const Vec_Slot *self);
+SMALL Result atlas_search_table_Table_grow(atlas_search_Table *self);
+SMALL void std_alloc_vec_Vec_drop_Link_5(Vec_Slot given_1);
+SMALL void std_alloc_vec_Vec_drop_Marks_4(Vec_Slot given_1);
 SMALL atlas_search_Scale atlas_search_bands_Scale_copy(const atlas_search_Scale *self);
 SMALL void atlas_store_store_turns_Turns_new(void);
 SMALL atlas_model_AtlasError atlas_model_error_AtlasErrorFromAllocError_from(void);
@@ -10292,6 +10323,8 @@ SMALL void std_alloc_vec_Vec_truncate_Slot(Vec_Slot *self, uint64_t n);
 SMALL void std_alloc_vec_Vec_free_block_Slot(Vec_Slot self);
 SMALL void std_alloc_vec_Vec_truncate_Link(Vec_Slot *self, uint64_t n);
 SMALL void std_alloc_vec_Vec_free_block_Link(Vec_Slot self);
+SMALL void std_alloc_vec_Vec_truncate_Marks(Vec_Slot *self, uint64_t n);
+SMALL void std_alloc_vec_Vec_free_block_Marks(Vec_Slot self);
 SMALL atlas_store_Plan atlas_tree_requests_plan_for(const atlas_store_Node *leaf, atlas_model_Size size);
 SMALL uint32_t atlas_tree_requests_slots_needed(atlas_store_Plan plan);
 SMALL Result_Option_Allocation_AtlasError core_result_ResultFromResidualErrResidual_from_residual_Option_Allocation_AtlasError_AtlasError(ErrResidual_AtlasError residual);
@@ -10308,9 +10341,9 @@ SMALL atlas_model_Size atlas_tree_growth_grown_along(atlas_model_Size from, atla
 SMALL atlas_search_Link atlas_tree_growth_last_member(const atlas_store_Store *store, atlas_search_Link first);
 SMALL bool core_cmp_PartialEq_ne_Size(const atlas_model_Size *given_1, const atlas_model_Size *given_2);
 SMALL bool atlas_store_store_Store_is_free(const atlas_store_Store *self, atlas_search_Link at);
-SMALL uint64_t std_alloc_vec_Vec_capacity_Slot(const Vec_Slot *self);
-SMALL Result std_alloc_vec_Vec_reserve_Slot(Vec_Slot *self, uint64_t additional);
+SMALL Result std_alloc_vec_Vec_reserve_exact_Slot(Vec_Slot *self, uint64_t additional);
 SMALL Result_AtlasError core_result_ResultFromResidualErrResidual_from_residual_AtlasError(void);
+SMALL Result std_alloc_vec_Vec_reserve_Slot(Vec_Slot *self, uint64_t additional);
 SMALL atlas_model_AtlasError core_convert_AnyFrom_from_AtlasError(atlas_model_AtlasError given_1);
 SMALL void atlas_tree_growth_lengthen(atlas_store_Store *store, atlas_search_Link last, atlas_model_Size size);
 SMALL atlas_search_Link atlas_tree_growth_widen(atlas_store_Store *store, atlas_search_Link first, atlas_model_Size inner,
@@ -10357,6 +10390,8 @@ SMALL void std_alloc_vec_Vec_clear_Slot_2(Vec_Slot *self);
 SMALL void std_alloc_vec_Vec_destroy_empty_Slot_2(Vec_Slot self);
 SMALL void std_alloc_vec_Vec_clear_Link_3(Vec_Slot *self);
 SMALL void std_alloc_vec_Vec_destroy_empty_Link_3(Vec_Slot self);
+SMALL void std_alloc_vec_Vec_clear_Marks_2(Vec_Slot *self);
+SMALL void std_alloc_vec_Vec_destroy_empty_Marks_2(Vec_Slot self);
 SMALL void atlas_store_store_Store_replace(atlas_store_Store *self, const atlas_store_Store other);
 SMALL bool std_alloc_vec_Vec_move_to_AllocId(Vec_Slot *self, uint64_t cap);
 SMALL void std_alloc_vec_Vec_put_AllocId(Vec_Slot *self, atlas_model_AllocId x);
@@ -10387,12 +10422,14 @@ SMALL void guillotiere_simple_boxes_FreeBoxes_add(guillotiere_FreeBoxes *self, a
         const atlas_search_Scale *options);
 SMALL Result_Vec_AllocId std_alloc_vec_Vec_with_capacity_FreeBox(uint64_t capacity);
 SMALL Result_FreeBoxes_AtlasError core_result_ResultFromResidualErrResidual_from_residual_FreeBoxes_AtlasError(void);
-SMALL Result_Table atlas_search_table_Table_new(void);
+SMALL atlas_search_Table atlas_search_table_Table_new(void);
 SMALL Result_AtlasError guillotiere_simple_changes_file_area(guillotiere_FreeBoxes *boxes, atlas_model_Rectangle area,
         const atlas_search_Scale *options);
 SMALL void std_alloc_vec_Vec_destroy_empty_FreeBox_2(Vec_Slot self);
 SMALL void std_alloc_vec_Vec_clear_Link_4(Vec_Slot *self);
 SMALL void std_alloc_vec_Vec_destroy_empty_Link_4(Vec_Slot self);
+SMALL void std_alloc_vec_Vec_clear_Marks_3(Vec_Slot *self);
+SMALL void std_alloc_vec_Vec_destroy_empty_Marks_3(Vec_Slot self);
 SMALL slice_FreeBox std_alloc_vec_Vec_as_slice_FreeBox(const Vec_Slot *self);
 SMALL bool atlas_model_geometry_RectanglePartialEq_eq(const atlas_model_Rectangle *given_1, const atlas_model_Rectangle *given_2);
 SMALL Result_PagesError atlas_pages_paged_steps_check_start(atlas_model_Size size, const atlas_model_AllocatorOptions *options);
@@ -10419,8 +10456,8 @@ SMALL atlas_cache_OptionsError core_convert_AnyFrom_from_OptionsError(atlas_cach
 SMALL void atlas_cache_cache_TextureCache_prove_kept_u64_BuildHasherDefault_FoldHasher_FoldHasher(const atlas_cache_TextureCache_u64_BuildHasherDefault_FoldHasher_FoldHasher *self);
 SMALL void std_alloc_vec_Vec_truncate_AtlasAllocator_2(Vec_Slot *self, uint64_t n);
 SMALL void std_alloc_vec_Vec_free_block_AtlasAllocator(Vec_Slot self);
-SMALL void std_alloc_vec_Vec_truncate_Refusals(Vec_Slot *self, uint64_t n);
-SMALL void std_alloc_vec_Vec_free_block_Refusals(Vec_Slot self);
+SMALL void std_alloc_vec_Vec_truncate_Known(Vec_Slot *self, uint64_t n);
+SMALL void std_alloc_vec_Vec_free_block_Known(Vec_Slot self);
 SMALL void std_alloc_vec_Vec_drop_u64_Later(Vec_u64_Later given_1);
 SMALL void std_alloc_vec_Vec_drop_u32_Later(Vec_u64_Later given_1);
 SMALL void std_alloc_vec_Vec_drop_Group_Later(Vec_u64_Later given_1);
@@ -10471,7 +10508,7 @@ SMALL Result_TextureCache_u64_BuildHasherDefault_FoldHasher_FoldHasher core_resu
 SMALL Result_Entries_u64_BuildHasherDefault_FoldHasher_FoldHasher atlas_entries_entries_Entries_copy_u64_BuildHasherDefault_FoldHasher_FoldHasher(const atlas_entries_Entries_u64_BuildHasherDefault_FoldHasher_FoldHasher *self);
 SMALL ControlFlow_Entries_u64_BuildHasherDefault_FoldHasher_FoldHasher core_result_ResultTry_branch_Entries_u64_BuildHasherDefault_FoldHasher_FoldHasher(const Result_Entries_u64_BuildHasherDefault_FoldHasher_FoldHasher self);
 SMALL void std_alloc_vec_Vec_drop_AtlasAllocator_2(Vec_Slot given_1);
-SMALL void std_alloc_vec_Vec_drop_Refusals_2(Vec_Slot given_1);
+SMALL void std_alloc_vec_Vec_drop_Known_2(Vec_Slot given_1);
 SMALL void core_convert_AnyFrom_from(void);
 SMALL slice_CacheChange_u64 std_alloc_vec_Vec_as_slice_CacheChange_u64(const Vec_Slot *self);
 SMALL Result_Vec_AllocId std_alloc_vec_Vec_with_capacity_CacheChange_u64(uint64_t capacity);
@@ -10491,6 +10528,8 @@ SMALL atlas_entries_CacheError atlas_entries_error_CacheErrorFromAllocError_from
 SMALL uint64_t atlas_entries_recency_Recency_len(const atlas_entries_Recency *self);
 SMALL uint32_t atlas_entries_recency_Recency_made(const atlas_entries_Recency *self);
 SMALL const atlas_allocator_AtlasAllocator *std_alloc_vec_derefs_VecIndexUsize_index_AtlasAllocator(const Vec_Slot *self, uint64_t index);
+SMALL const atlas_cache_Known *std_alloc_vec_derefs_VecIndexUsize_index_Known(const Vec_Slot *self, uint64_t index);
+SMALL uint64_t atlas_cache_rooms_usable_pixels_of(atlas_model_Size size);
 SMALL uint64_t atlas_cache_rooms_usable_taken_side(uint32_t side, uint32_t padding, uint32_t alignment);
 SMALL Result_u64_CacheError atlas_cache_rooms_usable_unusable_on(const atlas_allocator_AtlasAllocator *page, uint64_t width,
         uint64_t height);
@@ -10534,7 +10573,6 @@ SMALL void std_alloc_vec_Vec_drop_Option_Rectangle(Vec_Slot given_1);
 SMALL void std_alloc_vec_Vec_truncate_Option_Placed(Vec_Slot *self, uint64_t n);
 SMALL void std_alloc_vec_Vec_free_block_Option_Placed(Vec_Slot self);
 SMALL Result_Vec_AllocId std_alloc_vec_Vec_with_capacity_Slot(uint64_t capacity);
-SMALL Result_Table atlas_search_table_Table_new_2(void);
 SMALL void guillotiere_c_atlas_store_store_Store_Destruct_drop(const atlas_store_Store given_1);
 SMALL slice_Slot std_alloc_vec_Vec_as_slice_Slot(const Vec_Slot *self);
 SMALL Result std_alloc_vec_Vec_extend_from_slice_Slot(Vec_Slot *self, slice_Slot other);
@@ -10542,10 +10580,17 @@ SMALL void std_alloc_vec_Vec_drop_Slot_4(Vec_Slot given_1);
 SMALL slice_Link std_alloc_vec_derefs_VecDerefSlice_deref_Link(const Vec_Slot *self);
 SMALL Result_Vec_AllocId std_alloc_vec_Vec_from_slice_Link(slice_Link items);
 SMALL Result_Table core_result_ResultFromResidualErrResidual_from_residual_Table(void);
-SMALL atlas_search_Marks atlas_search_marks_Marks_copy(const atlas_search_Marks *self);
+SMALL Result_Vec_AllocId atlas_search_table_copy_marks(const Vec_Slot *marks);
+SMALL void std_alloc_vec_Vec_drop_Link_6(Vec_Slot given_1);
 SMALL void std_alloc_vec_Vec_clear_Slot_3(Vec_Slot *self);
+SMALL bool std_alloc_vec_Vec_is_empty_Link(const Vec_Slot *self);
+COLD Result atlas_search_table_store(Vec_Slot *heads, Vec_Slot *marks, const array_u16_8 *only);
+SMALL Result core_result_ResultFromResidualErrResidual_from_residual(void);
+SMALL void std_alloc_vec_Vec_clear_Link_5(Vec_Slot *self);
+SMALL void std_alloc_vec_Vec_clear_Marks_4(Vec_Slot *self);
 SMALL void std_alloc_vec_Vec_truncate_within_Slot(Vec_Slot *self, uint64_t n);
 SMALL void std_alloc_vec_Vec_truncate_within_Link(Vec_Slot *self, uint64_t n);
+SMALL void std_alloc_vec_Vec_truncate_within_Marks(Vec_Slot *self, uint64_t n);
 SMALL atlas_model_Size atlas_search_cut_exact_size(atlas_model_Rectangle area);
 SMALL atlas_store_Plan atlas_tree_requests_strip(const atlas_store_Node *leaf, atlas_search_Orientation axis, uint32_t pixels);
 SMALL atlas_store_Plan atlas_tree_requests_corner(const atlas_store_Node *leaf, atlas_model_Size whole, atlas_model_Size size);
@@ -10557,6 +10602,7 @@ SMALL Option_Link atlas_tree_freeing_lift_lone(atlas_store_Store *store, atlas_s
 SMALL void atlas_store_store_Store_list(atlas_store_Store *self, atlas_search_Link at);
 SMALL Option_ref_Slot core_slice_index_UsizeSliceIndexRefSlice_pick_Slot(uint64_t given_1, slice_Slot given_2);
 SMALL void atlas_store_store_Store_stretch_whole(atlas_store_Store *self, atlas_search_Link at, atlas_model_Size size);
+SMALL bool std_alloc_vec_Vec_move_to_Slot(Vec_Slot *self, uint64_t cap);
 SMALL bool std_alloc_vec_Vec_grow_Slot(Vec_Slot *self, uint64_t additional);
 SMALL void atlas_store_store_Store_stretch(atlas_store_Store *self, atlas_search_Link at, atlas_model_Size size);
 SMALL atlas_search_Link atlas_store_store_Store_append(atlas_store_Store *self, atlas_search_Link last, atlas_model_Size size);
@@ -10579,6 +10625,9 @@ SMALL Option_Link atlas_search_best_Best_found(const atlas_search_Best *self);
 SMALL atlas_model_Rectangle atlas_store_slots_entry_SlotEntry_rectangle(const atlas_store_Slot *self);
 SMALL atlas_search_Mask atlas_search_masks_Mask_or(atlas_search_Mask self, atlas_search_Mask other);
 SMALL bool atlas_search_masks_Mask_is_empty(atlas_search_Mask self);
+SMALL bool atlas_search_table_Table_is_grown(const atlas_search_Table *self);
+COLD Option_Found atlas_search_search_pick_few_Slot(slice_Slot entries, const atlas_search_Table *table, const atlas_search_Scale *options,
+        atlas_model_Size size);
 SMALL atlas_store_Slot atlas_store_store_start_whole_slot(atlas_model_Size size);
 SMALL void std_alloc_vec_Vec_push_reserved_Slot(Vec_Slot *self, atlas_store_Slot value);
 SMALL uint32_t atlas_model_geometry_Rectangle_width(const atlas_model_Rectangle *self);
@@ -10610,7 +10659,7 @@ SMALL atlas_model_AtlasError atlas_model_error_AtlasErrorFromAllocFailed_from_Ch
 SMALL void std_alloc_vec_Vec_truncate_within_Allocation_2(Vec_Slot *self, uint64_t n);
 SMALL void std_alloc_vec_Vec_truncate_Slot_2(Vec_Slot *self, uint64_t n);
 SMALL void std_alloc_vec_Vec_truncate_Link_3(Vec_Slot *self, uint64_t n);
-SMALL void std_alloc_vec_Vec_drop_Link_5(Vec_Slot given_1);
+SMALL void std_alloc_vec_Vec_truncate_Marks_2(Vec_Slot *self, uint64_t n);
 SMALL bool std_alloc_room_may_hold_AllocId(uint64_t n);
 SMALL Result_ptr std_alloc_vec_resize_AllocId(const void *alloc, void *ptr, uint64_t len, uint64_t old_cap, uint64_t new_cap);
 SMALL slice_Slot_2 std_alloc_vec_lends_VecDerefSliceMut_deref_mut_Slot(Vec_Slot *self);
@@ -10632,19 +10681,22 @@ SMALL atlas_search_Rest atlas_search_cut_rest_along(atlas_search_Orientation ori
         atlas_model_Size size);
 SMALL bool guillotiere_simple_is_kept(atlas_model_Rectangle part, const atlas_search_Scale *options);
 SMALL Result std_alloc_vec_Vec_reserve_FreeBox(Vec_Slot *self, uint64_t additional);
+SMALL Result std_alloc_vec_Vec_reserve_exact_FreeBox(Vec_Slot *self, uint64_t additional);
 SMALL bool atlas_model_options_AllocatorOptionsPartialEq_eq(const atlas_model_AllocatorOptions *given_1,
         const atlas_model_AllocatorOptions *given_2);
 SMALL void std_alloc_vec_Vec_truncate_FreeBox_2(Vec_Slot *self, uint64_t n);
 SMALL slice_Link_2 std_alloc_vec_lends_VecDerefSliceMut_deref_mut_Link(Vec_Slot *self);
+SMALL const atlas_search_Marks *std_alloc_vec_derefs_VecIndexUsize_index_Marks(const Vec_Slot *self, uint64_t index);
 SMALL void atlas_search_table_blank_marked(slice_Link_2 heads, const atlas_search_Marks *marks);
 SMALL atlas_search_Marks atlas_search_marks_Marks_none(void);
+SMALL atlas_search_Marks *std_alloc_vec_lends_VecIndexMutUsize_index_mut_Marks(Vec_Slot *self, uint64_t index);
 SMALL atlas_search_Link guillotiere_simple_boxes_FreeBoxes_take(guillotiere_FreeBoxes *self);
 SMALL void guillotiere_simple_boxes_FreeBoxes_put(guillotiere_FreeBoxes *self, atlas_search_Link at, atlas_model_Rectangle area,
         const atlas_search_Scale *options);
 SMALL bool std_alloc_vec_Vec_move_to_FreeBox(Vec_Slot *self, uint64_t cap);
-SMALL Result_Vec_AllocId std_alloc_vec_Vec_from_elem_Link(atlas_search_Link elem, uint64_t n);
 SMALL void guillotiere_Destruct_none_drop(void);
 SMALL void std_alloc_vec_Vec_truncate_Link_4(Vec_Slot *self, uint64_t n);
+SMALL void std_alloc_vec_Vec_truncate_Marks_3(Vec_Slot *self, uint64_t n);
 SMALL bool atlas_model_geometry_PointPartialEq_eq(const atlas_model_Point *given_1, const atlas_model_Point *given_2);
 SMALL bool core_cmp_Ordering_and_eq_Point(bool found, const atlas_model_Point *a, const atlas_model_Point *b);
 SMALL atlas_pages_PagesError core_convert_AnyFrom_from_PagesError(atlas_pages_PagesError given_1);
@@ -10668,7 +10720,7 @@ SMALL atlas_cache_Rooms atlas_cache_rooms_Rooms_new(atlas_cache_CacheOptions opt
 SMALL atlas_entries_Entries_u64_BuildHasherDefault_FoldHasher_FoldHasher atlas_entries_entries_Entries_with_hasher_u64_BuildHasherDefault_FoldHasher_FoldHasher(BuildHasherDefault_FoldHasher hasher);
 SMALL void atlas_cache_rooms_Rooms_prove_kept(const atlas_cache_Rooms *self);
 SMALL void std_alloc_vec_Vec_truncate_within_AtlasAllocator_2(Vec_Slot *self, uint64_t n);
-SMALL void std_alloc_vec_Vec_truncate_within_Refusals(Vec_Slot *self, uint64_t n);
+SMALL void std_alloc_vec_Vec_truncate_within_Known(Vec_Slot *self, uint64_t n);
 SMALL void std_alloc_vec_Vec_clear_u64_Later(Vec_u64_Later *self);
 SMALL void std_alloc_vec_Vec_destroy_empty_u64_Later(Vec_u64_Later self);
 SMALL void std_alloc_vec_Vec_clear_u32_Later(Vec_u64_Later *self);
@@ -10699,21 +10751,17 @@ SMALL Result_Entry_u64_CacheError atlas_cache_cache_holding_join_blank_u64_Build
 SMALL ControlFlow_ErrResidual_CacheError_Entry_u64 core_result_ResultTry_branch_Entry_u64_CacheError(Result_Entry_u64_CacheError self);
 SMALL Result_Inserted_CacheError core_result_ResultFromResidualErrResidual_from_residual_Inserted_CacheError_CacheError(ErrResidual_CacheError residual);
 SMALL Option_Size atlas_cache_options_CacheOptions_asked_of(const atlas_cache_CacheOptions *self, atlas_model_Size size);
-PART Result_Option_Place_CacheError atlas_cache_cache_TextureCache_add_u64_BuildHasherDefault_FoldHasher_FoldHasher(atlas_cache_TextureCache_u64_BuildHasherDefault_FoldHasher_FoldHasher *self, uint64_t key, atlas_model_Size size, atlas_model_Size asked, uint64_t from, uint64_t to);
-SMALL ControlFlow_ErrResidual_CacheError_Option_Place core_result_ResultTry_branch_Option_Place_CacheError(Result_Option_Place_CacheError self);
-SMALL Result_Option_Inserted_CacheError atlas_cache_cache_TextureCache_insert_cleared_u64_BuildHasherDefault_FoldHasher_FoldHasher(atlas_cache_TextureCache_u64_BuildHasherDefault_FoldHasher_FoldHasher *self, uint64_t key, atlas_model_Size size, atlas_model_Size asked, uint32_t left, Vec_Slot *changes);
-SMALL ControlFlow_ErrResidual_CacheError_Option_Inserted core_result_ResultTry_branch_Option_Inserted_CacheError(Result_Option_Inserted_CacheError self);
-SMALL uint32_t core_int_u32_saturating_sub(uint32_t self, uint32_t second);
-SMALL Result_Option_u32_CacheError atlas_cache_cache_TextureCache_make_room_u64_BuildHasherDefault_FoldHasher_FoldHasher(atlas_cache_TextureCache_u64_BuildHasherDefault_FoldHasher_FoldHasher *self, atlas_model_Size asked, Vec_Slot *changes);
-SMALL ControlFlow_ErrResidual_CacheError_Option_u32 core_result_ResultTry_branch_Option_u32_CacheError(Result_Option_u32_CacheError self);
-SMALL void atlas_cache_rooms_Rooms_prove_pages(const atlas_cache_Rooms *self);
+SMALL bool atlas_cache_rooms_Rooms_have_area(const atlas_cache_Rooms *self, atlas_model_Size asked);
+SMALL Result_Inserted_CacheError atlas_cache_cache_TextureCache_insert_uncounted_u64_BuildHasherDefault_FoldHasher_FoldHasher(atlas_cache_TextureCache_u64_BuildHasherDefault_FoldHasher_FoldHasher *self, uint64_t key, atlas_model_Size size, atlas_model_Size asked, Vec_Slot *changes);
+SMALL uint64_t core_int_u64_saturating_sub(uint64_t self, uint64_t second);
 SMALL void atlas_entries_entries_Entries_remove_u64_BuildHasherDefault_FoldHasher_FoldHasher(atlas_entries_Entries_u64_BuildHasherDefault_FoldHasher_FoldHasher *self, uint32_t number);
 SMALL void atlas_cache_rooms_Rooms_free(atlas_cache_Rooms *self, uint32_t page, atlas_model_AllocId id);
 SMALL void std_collections_hash_map_HashMap_clear_u64_u32_BuildHasherDefault_FoldHasher_FoldHasher(std_collections_HashMap_u64_u32_BuildHasherDefault_FoldHasher_FoldHasher *self);
 SMALL void atlas_entries_recency_Recency_clear(atlas_entries_Recency *self);
 SMALL void std_alloc_vec_Vec_clear_Entry_u64_2(Vec_Slot *self);
 SMALL atlas_allocator_AtlasAllocator *std_alloc_vec_lends_VecIndexMutUsize_index_mut_AtlasAllocator(Vec_Slot *self, uint64_t index);
-SMALL atlas_cache_Refusals *std_alloc_vec_lends_VecIndexMutUsize_index_mut_Refusals(Vec_Slot *self, uint64_t index);
+SMALL atlas_cache_Known atlas_cache_rooms_asking_changed(uint64_t live);
+SMALL atlas_cache_Known *std_alloc_vec_lends_VecIndexMutUsize_index_mut_Known(Vec_Slot *self, uint64_t index);
 SMALL bool atlas_cache_cache_TextureCache_drop_last_u64_BuildHasherDefault_FoldHasher_FoldHasher(atlas_cache_TextureCache_u64_BuildHasherDefault_FoldHasher_FoldHasher *self, uint64_t frames, Vec_Slot *changes);
 SMALL bool atlas_cache_cache_TextureCache_drop_first_u64_BuildHasherDefault_FoldHasher_FoldHasher(atlas_cache_TextureCache_u64_BuildHasherDefault_FoldHasher_FoldHasher *self, Vec_Slot *changes);
 SMALL bool atlas_cache_cache_TextureCache_drop_page_u64_BuildHasherDefault_FoldHasher_FoldHasher(atlas_cache_TextureCache_u64_BuildHasherDefault_FoldHasher_FoldHasher *self, Vec_Slot *changes);
@@ -10733,8 +10781,8 @@ SMALL void std_alloc_vec_Vec_drop_Change_3(Vec_Slot given_1);
 SMALL void std_alloc_vec_Vec_drop_Allocation_4(Vec_Slot given_1);
 SMALL Result_Vec_AllocId atlas_cache_rooms_copying_copied_pages(slice_AtlasAllocator pages);
 SMALL Result_Rooms core_result_ResultFromResidualErrResidual_from_residual_Rooms(void);
-SMALL slice_Refusals std_alloc_vec_derefs_VecDerefSlice_deref_Refusals(const Vec_Slot *self);
-SMALL Result_Vec_AllocId std_alloc_vec_Vec_from_slice_Refusals(slice_Refusals items);
+SMALL slice_Known std_alloc_vec_derefs_VecDerefSlice_deref_Known(const Vec_Slot *self);
+SMALL Result_Vec_AllocId std_alloc_vec_Vec_from_slice_Known(slice_Known items);
 SMALL const BuildHasherDefault_FoldHasher *std_collections_hash_map_HashMap_hasher_u64_u32_BuildHasherDefault_FoldHasher_FoldHasher(const std_collections_HashMap_u64_u32_BuildHasherDefault_FoldHasher_FoldHasher *self);
 SMALL Result_BuildHasherDefault_FoldHasher core_hash_build_BuildHasherDefaultClone_clone_FoldHasher(const BuildHasherDefault_FoldHasher *given_1);
 SMALL ControlFlow_BuildHasherDefault_FoldHasher core_result_ResultTry_branch_BuildHasherDefault_FoldHasher(Result_BuildHasherDefault_FoldHasher self);
@@ -10746,11 +10794,11 @@ SMALL ControlFlow_Recency core_result_ResultTry_branch_Recency(Result_Recency se
 SMALL void std_collections_hash_map_HashMap_drop_u64_u32_BuildHasherDefault_FoldHasher_FoldHasher_2(const std_collections_HashMap_u64_u32_BuildHasherDefault_FoldHasher_FoldHasher given_1);
 SMALL slice_Entry_u64 std_alloc_vec_derefs_VecDerefSlice_deref_Entry_u64(const Vec_Slot *self);
 SMALL Result_Vec_AllocId std_alloc_vec_Vec_from_slice_Entry_u64(slice_Entry_u64 items);
-SMALL void std_alloc_vec_Vec_drop_Link_6(Vec_Slot given_1);
+SMALL void std_alloc_vec_Vec_drop_Link_7(Vec_Slot given_1);
 SMALL void std_alloc_vec_Vec_clear_AtlasAllocator_2(Vec_Slot *self);
 SMALL void std_alloc_vec_Vec_destroy_empty_AtlasAllocator_2(Vec_Slot self);
-SMALL void std_alloc_vec_Vec_clear_Refusals_2(Vec_Slot *self);
-SMALL void std_alloc_vec_Vec_destroy_empty_Refusals_2(Vec_Slot self);
+SMALL void std_alloc_vec_Vec_clear_Known_2(Vec_Slot *self);
+SMALL void std_alloc_vec_Vec_destroy_empty_Known_2(Vec_Slot self);
 SMALL bool std_alloc_vec_Vec_move_to_CacheChange_u64(Vec_Slot *self, uint64_t cap);
 SMALL tuple_Slots_CacheChange_u64_Spare_CacheChange_u64 std_alloc_vec_Vec_detach_CacheChange_u64(Vec_Slot *self, uint64_t places);
 SMALL void core_slots_Slots_copy_in_CacheChange_u64(Slots_CacheChange_u64 *self, uint64_t to, slice_CacheChange_u64 src);
@@ -10764,11 +10812,12 @@ SMALL Result std_alloc_vec_Vec_reserve_Entry_u64(Vec_Slot *self, uint64_t additi
 SMALL Result_CacheError atlas_entries_recency_Recency_reserve(atlas_entries_Recency *self, uint64_t additional);
 SMALL atlas_entries_CacheError atlas_cache_rooms_refusal(atlas_model_AtlasError error);
 SMALL Result atlas_cache_rooms_Rooms_add_marks(const atlas_cache_Rooms *self, Vec_Slot *marks);
-SMALL Result core_result_ResultFromResidualErrResidual_from_residual(void);
 SMALL Vec_Slot *std_alloc_vec_lends_VecIndexMutUsize_index_mut_Vec_bool(Vec_Slot *self, uint64_t index);
 SMALL void std_alloc_vec_Vec_clear_bool(Vec_Slot *self);
 SMALL Result std_alloc_vec_Vec_reserve_bool(Vec_Slot *self, uint64_t additional);
-SMALL bool std_alloc_vec_Vec_grow_amortized_CacheChange_u64(Vec_Slot *self, uint64_t additional);
+COLD bool std_alloc_vec_Vec_grow_amortized_CacheChange_u64(Vec_Slot *self, uint64_t additional);
+SMALL slice_Known std_alloc_vec_Vec_as_slice_Known(const Vec_Slot *self);
+SMALL uint64_t atlas_cache_rooms_usable_extent(uint32_t from, uint32_t to);
 SMALL uint32_t core_int_i32_max(uint32_t given_1, uint32_t given_2);
 SMALL uint64_t atlas_cache_rooms_usable_unusable_sum(slice_Rectangle free, uint64_t width, uint64_t height);
 SMALL void std_alloc_vec_Vec_drop_Rectangle_3(Vec_Slot given_1);
@@ -10797,7 +10846,6 @@ SMALL Result_Vec_AllocId std_alloc_vec_Vec_from_elem_Option_OnPage(Option_OnPage
 SMALL Result_Option_Pages_SheetError core_result_ResultFromResidualErrResidual_from_residual_Option_Pages_SheetError(void);
 PART Result_Vec_AllocId std_alloc_vec_Vec_from_slice_Size(slice_Size items);
 SMALL void std_alloc_vec_Vec_drop_Option_OnPage(Vec_Slot given_1);
-SMALL bool std_alloc_vec_Vec_is_empty_Size(const Vec_Slot *self);
 PART Result_Arrangement_SheetError atlas_sheet_paging_next_page(slice_Size left, const atlas_sheet_SheetOptions *options);
 SMALL bool atlas_sheet_paging_is_bare(slice_Option_Placed places);
 SMALL void std_alloc_vec_Vec_drop_Option_Placed_2(Vec_Slot given_1);
@@ -10832,7 +10880,7 @@ PART Result_Arrangement_SheetError atlas_sheet_climbing_improve(const atlas_shee
         uint32_t *tries, const atlas_sheet_Arrangement first);
 SMALL slice_Option_Rectangle std_alloc_vec_derefs_VecDerefSlice_deref_Option_Rectangle(const Vec_Slot *self);
 SMALL wide_number atlas_sheet_filling_used_area(slice_Option_Rectangle places);
-PART Result_Vec_Size_SheetError atlas_sheet_sheets_numbers_of(slice_tuple_u64_Size order);
+SMALL Result_Vec_Size_SheetError atlas_sheet_sheets_numbers_of(slice_tuple_u64_Size order);
 SMALL Result_Vec_Size_SheetError atlas_sheet_placed_placed_all(slice_Size sprites, const atlas_sheet_SheetOptions *options,
         const atlas_sheet_Arrangement *arrangement);
 SMALL void std_alloc_vec_Vec_clear_Size_2(Vec_Slot *self);
@@ -10842,18 +10890,26 @@ SMALL void std_alloc_vec_Vec_destroy_empty_tuple_u64_Size(Vec_Slot self);
 SMALL void std_alloc_vec_Vec_clear_Option_Rectangle(Vec_Slot *self);
 SMALL void std_alloc_vec_Vec_destroy_empty_Option_Rectangle(Vec_Slot self);
 SMALL void std_alloc_vec_Vec_truncate_within_Option_Placed(Vec_Slot *self, uint64_t n);
-SMALL bool std_alloc_vec_Vec_move_to_Slot(Vec_Slot *self, uint64_t cap);
-SMALL Result_Vec_AllocId std_alloc_vec_Vec_from_elem_Link_2(atlas_search_Link elem, uint64_t n);
 SMALL void guillotiere_c_atlas_search_table_Table_Destruct_drop(const atlas_search_Table given_1);
 SMALL void core_slots_Slots_copy_in_Slot(Slots_CacheChange_u64 *self, uint64_t to, slice_Slot src);
 SMALL void std_alloc_vec_Vec_clear_Slot_4(Vec_Slot *self);
 SMALL slice_Link std_alloc_vec_Vec_as_slice_Link(const Vec_Slot *self);
 SMALL Result_Vec_AllocId std_alloc_vec_Vec_with_capacity_Link(uint64_t capacity);
 SMALL Result std_alloc_vec_Vec_extend_from_slice_Link(Vec_Slot *self, slice_Link other);
-SMALL void std_alloc_vec_Vec_drop_Link_7(Vec_Slot given_1);
+SMALL void std_alloc_vec_Vec_drop_Link_8(Vec_Slot given_1);
+SMALL Result_Vec_AllocId std_alloc_vec_Vec_with_capacity_Marks(uint64_t capacity);
+SMALL atlas_search_Marks atlas_search_marks_Marks_copy(const atlas_search_Marks *self);
+SMALL void std_alloc_vec_Vec_push_reserved_Marks(Vec_Slot *self, const atlas_search_Marks value);
+SMALL void std_alloc_vec_Vec_clear_Link_6(Vec_Slot *self);
 SMALL void std_alloc_vec_Vec_truncate_Slot_3(Vec_Slot *self, uint64_t n);
+SMALL Result std_alloc_vec_Vec_reserve_exact_Marks(Vec_Slot *self, uint64_t additional);
+SMALL Result std_alloc_vec_Vec_resize_Link(Vec_Slot *self, uint64_t n, atlas_search_Link value);
+SMALL void atlas_search_table_write_heads(Vec_Slot *heads, atlas_search_Marks *marks, const array_u16_8 *only);
+SMALL void std_alloc_vec_Vec_truncate_Link_5(Vec_Slot *self, uint64_t n);
+SMALL void std_alloc_vec_Vec_truncate_Marks_4(Vec_Slot *self, uint64_t n);
 SMALL void std_alloc_vec_opened_drop_run_Slot(Slots_CacheChange_u64 *row, uint64_t from, uint64_t to);
 SMALL void std_alloc_vec_opened_drop_run_Link(Slots_CacheChange_u64 *row, uint64_t from, uint64_t to);
+SMALL void std_alloc_vec_opened_drop_run_Marks(Slots_CacheChange_u64 *row, uint64_t from, uint64_t to);
 SMALL bool atlas_search_cut_OrientationPartialEq_eq(const atlas_search_Orientation *given_1, const atlas_search_Orientation *given_2);
 SMALL tuple_u32_u32 atlas_tree_requests_along_and_across(atlas_model_Size size, atlas_search_Orientation axis);
 SMALL void atlas_store_slots_lists_unlist(slice_Slot_2 slots, atlas_search_Table *lists, atlas_store_Recent *recent, atlas_search_Link at);
@@ -10870,7 +10926,9 @@ SMALL atlas_search_Link atlas_store_store_Store_lift(atlas_store_Store *self, at
 SMALL void atlas_store_slots_lists_enlist(slice_Slot_2 slots, atlas_search_Table *lists, const atlas_search_Scale *options,
         atlas_store_Recent *recent, atlas_search_Link at);
 SMALL void atlas_store_slots_extending_stretch_leaf(slice_Slot_2 slots, atlas_search_Link at, atlas_model_Size size);
-SMALL bool std_alloc_vec_Vec_grow_amortized_Slot(Vec_Slot *self, uint64_t additional);
+SMALL bool std_alloc_room_may_hold_Slot(uint64_t n);
+SMALL Result_ptr std_alloc_vec_resize_Slot(const void *alloc, void *ptr, uint64_t len, uint64_t old_cap, uint64_t new_cap);
+COLD bool std_alloc_vec_Vec_grow_amortized_Slot(Vec_Slot *self, uint64_t additional);
 SMALL atlas_search_Link atlas_store_store_Store_take(atlas_store_Store *self);
 SMALL void atlas_store_slots_extending_append_leaf(slice_Slot_2 slots, atlas_search_Link last, atlas_search_Link fresh,
         atlas_model_Size size);
@@ -10878,6 +10936,7 @@ SMALL void atlas_store_slots_extending_nest_top(slice_Slot_2 slots, atlas_search
         atlas_search_Link strip, atlas_model_Size inner, atlas_model_Size size);
 SMALL uint64_t atlas_search_bands_usual_band(uint32_t side);
 SMALL uint64_t atlas_search_bands_band(uint32_t side, const atlas_model_AllocatorOptions *options);
+SMALL atlas_search_Mask atlas_search_masks_Mask_none(void);
 SMALL atlas_search_Mask atlas_search_marks_Marks_row(const atlas_search_Marks *self, uint64_t i);
 SMALL atlas_search_Mask atlas_search_marks_Marks_column(const atlas_search_Marks *self, uint64_t j);
 SMALL atlas_search_Mask atlas_search_table_Table_used(const atlas_search_Table *self);
@@ -10891,13 +10950,14 @@ SMALL bool atlas_search_best_Best_has_equal_side(const atlas_search_Best *self);
 SMALL atlas_search_Mask atlas_search_search_rows_with(const atlas_search_Table *table, uint64_t first, uint64_t end);
 SMALL void atlas_search_search_search_rows_Slot(slice_Slot entries, const atlas_search_Table *table, atlas_search_Mask rows,
         uint64_t first, uint64_t end, atlas_search_Best *best);
+SMALL void atlas_search_search_search_few_Slot(slice_Slot entries, const atlas_search_Table *table, uint64_t end, atlas_search_Best *best);
 SMALL void std_alloc_vec_Vec_put_Slot(Vec_Slot *self, atlas_store_Slot x);
 SMALL bool atlas_allocator_atlas_room_precedes(const atlas_model_Rectangle *one, const atlas_model_Rectangle *other);
-SMALL bool std_alloc_vec_Vec_grow_amortized_Allocation(Vec_Slot *self, uint64_t additional);
+COLD bool std_alloc_vec_Vec_grow_amortized_Allocation(Vec_Slot *self, uint64_t additional);
 SMALL void atlas_store_Destruct_none_drop_Allocation(atlas_model_Allocation given_1);
 SMALL void std_alloc_vec_Vec_truncate_Allocation_3(Vec_Slot *self, uint64_t n);
 SMALL void std_alloc_vec_opened_drop_run_Allocation(Slots_CacheChange_u64 *row, uint64_t from, uint64_t to);
-SMALL bool std_alloc_vec_Vec_grow_amortized_Rectangle(Vec_Slot *self, uint64_t additional);
+COLD bool std_alloc_vec_Vec_grow_amortized_Rectangle(Vec_Slot *self, uint64_t additional);
 SMALL void atlas_store_Destruct_none_drop_Rectangle(atlas_model_Rectangle given_1);
 SMALL void std_alloc_vec_Vec_truncate_Rectangle_2(Vec_Slot *self, uint64_t n);
 SMALL void std_alloc_vec_opened_drop_run_Rectangle(Slots_CacheChange_u64 *row, uint64_t from, uint64_t to);
@@ -10905,12 +10965,12 @@ SMALL void std_alloc_vec_opened_drop_run_Change(Slots_CacheChange_u64 *row, uint
 SMALL slice_Allocation_2 std_alloc_vec_Vec_as_mut_slice_Allocation(Vec_Slot *self);
 SMALL void core_slice_sort_slice_T_sort_unstable_by_key_Allocation_Reverse_tuple_u64_u32(slice_Allocation_2 given_1);
 SMALL void std_alloc_vec_Vec_truncate_Change_2(Vec_Slot *self, uint64_t n);
-SMALL bool std_alloc_vec_Vec_grow_amortized_Change(Vec_Slot *self, uint64_t additional);
+COLD bool std_alloc_vec_Vec_grow_amortized_Change(Vec_Slot *self, uint64_t additional);
 SMALL void atlas_allocator_Destruct_none_drop_Change(atlas_model_Change given_1);
 SMALL void std_alloc_vec_opened_drop_run_Allocation_2(Slots_CacheChange_u64 *row, uint64_t from, uint64_t to);
 SMALL void std_alloc_vec_Vec_truncate_within_Slot_2(Vec_Slot *self, uint64_t n);
 SMALL void std_alloc_vec_Vec_truncate_within_Link_3(Vec_Slot *self, uint64_t n);
-SMALL void std_alloc_vec_Vec_clear_Link_5(Vec_Slot *self);
+SMALL void std_alloc_vec_Vec_truncate_within_Marks_2(Vec_Slot *self, uint64_t n);
 SMALL Result_ptr std_heap_GlobalAllocator_grow_AllocId(const void *self, void *ptr, uint64_t len, uint64_t _old_cap, uint64_t new_cap);
 SMALL uint64_t atlas_store_slots_batch_hide(slice_Slot_2 slots, slice_AllocId ids);
 SMALL void atlas_store_slots_batch_show(slice_Slot_2 slots, slice_AllocId ids);
@@ -10920,7 +10980,10 @@ SMALL void std_alloc_vec_Vec_truncate_within_FreeBox(Vec_Slot *self, uint64_t n)
 SMALL bool atlas_search_search_search_before_FreeBox(slice_FreeBox entries, const atlas_search_Table *table, atlas_search_Place own,
         atlas_search_Mask columns, atlas_search_Mask rows, uint64_t end, atlas_search_Best *best);
 SMALL atlas_model_Rectangle guillotiere_simple_boxes_FreeBoxEntry_rectangle(const guillotiere_FreeBox *self);
+COLD Option_Found atlas_search_search_pick_few_FreeBox(slice_FreeBox entries, const atlas_search_Table *table,
+        const atlas_search_Scale *options, atlas_model_Size size);
 SMALL atlas_model_Point atlas_search_cut_corner_of(atlas_model_Rectangle chosen, atlas_model_Size size);
+SMALL uint32_t core_int_u32_saturating_sub(uint32_t self, uint32_t second);
 SMALL void guillotiere_simple_boxes_FreeBoxes_remove(guillotiere_FreeBoxes *self, atlas_search_Found found);
 SMALL uint64_t atlas_search_cut_capped_area(uint32_t width, uint32_t height);
 SMALL atlas_model_Rectangle atlas_search_cut_back(atlas_model_Rectangle area, atlas_search_Orientation axis, uint32_t extent);
@@ -10928,11 +10991,11 @@ SMALL atlas_model_Rectangle atlas_search_cut_front(atlas_model_Rectangle area, a
 SMALL bool std_alloc_vec_Vec_grow_FreeBox(Vec_Slot *self, uint64_t additional);
 SMALL bool core_cmp_Ordering_and_eq_Size(bool found, const atlas_model_Size *a, const atlas_model_Size *b);
 SMALL void std_alloc_vec_Vec_truncate_within_FreeBox_2(Vec_Slot *self, uint64_t n);
+SMALL slice_Marks std_alloc_vec_Vec_as_slice_Marks(const Vec_Slot *self);
 SMALL atlas_search_Mask atlas_search_marks_Marks_used(const atlas_search_Marks *self);
 SMALL Option_u64 atlas_search_masks_Mask_take_first(atlas_search_Mask *self);
 SMALL void atlas_search_table_blank_row(slice_Link_2 heads, uint64_t row, atlas_search_Mask columns);
-SMALL atlas_search_Mask atlas_search_masks_Mask_none(void);
-SMALL guillotiere_FreeBox guillotiere_simple_boxes_unused_box(atlas_search_Link next);
+SMALL guillotiere_FreeBox guillotiere_simple_boxes_FreeBox_unused_box(atlas_search_Link next);
 SMALL void std_alloc_vec_Vec_push_reserved_FreeBox(Vec_Slot *self, guillotiere_FreeBox value);
 SMALL const guillotiere_FreeBox *std_alloc_vec_derefs_VecIndexUsize_index_FreeBox(const Vec_Slot *self, uint64_t index);
 SMALL guillotiere_FreeBox *std_alloc_vec_lends_VecIndexMutUsize_index_mut_FreeBox(Vec_Slot *self, uint64_t index);
@@ -10944,12 +11007,8 @@ SMALL atlas_search_Link atlas_search_heap_push_FreeBox(slice_FreeBox_2 entries, 
 SMALL void atlas_search_table_Table_raise(atlas_search_Table *self, atlas_search_Place at, atlas_search_Link first);
 SMALL bool std_alloc_room_may_hold_FreeBox(uint64_t n);
 SMALL Result_ptr std_alloc_vec_resize_FreeBox(const void *alloc, void *ptr, uint64_t len, uint64_t old_cap, uint64_t new_cap);
-SMALL Result_Vec_AllocId std_alloc_vec_Vec_with_capacity_Link_2(uint64_t capacity);
-SMALL void atlas_search_Destruct_none_drop_Link(atlas_search_Link given_1);
-SMALL Result_Link core_clone_Clone_copy_clone_Link(const atlas_search_Link *given_1);
-SMALL void std_alloc_vec_Vec_put_Link(Vec_Slot *self, atlas_search_Link x);
-SMALL void std_alloc_vec_Vec_drop_Link_8(Vec_Slot given_1);
 SMALL void std_alloc_vec_Vec_truncate_within_Link_4(Vec_Slot *self, uint64_t n);
+SMALL void std_alloc_vec_Vec_truncate_within_Marks_3(Vec_Slot *self, uint64_t n);
 SMALL Result_Option_Allocation_AtlasError atlas_pages_paged_steps_grant_on(slice_AtlasAllocator_2 pages, uint64_t page,
         atlas_model_Size size);
 SMALL Result_Option_tuple_AtlasAllocator_Allocation_AtlasError atlas_pages_paged_steps_page_for(atlas_model_Size page_size,
@@ -10966,7 +11025,7 @@ SMALL bool core_option_Option_is_none_Size(const Option_Size *self);
 SMALL std_collections_HashMap_u64_u32_BuildHasherDefault_FoldHasher_FoldHasher std_collections_hash_map_HashMap_with_hasher_u64_u32_BuildHasherDefault_FoldHasher_FoldHasher(BuildHasherDefault_FoldHasher hash_builder);
 SMALL atlas_entries_Recency atlas_entries_recency_Recency_new(void);
 SMALL void std_alloc_vec_opened_drop_run_AtlasAllocator_2(Slots_CacheChange_u64 *row, uint64_t from, uint64_t to);
-SMALL void std_alloc_vec_opened_drop_run_Refusals(Slots_CacheChange_u64 *row, uint64_t from, uint64_t to);
+SMALL void std_alloc_vec_opened_drop_run_Known(Slots_CacheChange_u64 *row, uint64_t from, uint64_t to);
 SMALL void std_alloc_vec_Vec_truncate_u64_Later(Vec_u64_Later *self, uint64_t n);
 SMALL std_collections_Later std_alloc_vec_Vec_free_block_u64_Later(Vec_u64_Later self);
 SMALL void std_collections_std_collections_later_Later_Destruct_drop(std_collections_Later given_1);
@@ -11000,26 +11059,21 @@ PART Result_u32_CacheError atlas_entries_entries_Entries_push_u64_BuildHasherDef
 SMALL ControlFlow_ErrResidual_CacheError_u32 core_result_ResultTry_branch_u32_CacheError(Result_u32_CacheError self);
 SMALL Result_Entry_u64_CacheError core_result_ResultFromResidualErrResidual_from_residual_Entry_u64_CacheError_CacheError(ErrResidual_CacheError residual);
 SMALL Option_u32 atlas_cache_options_asked_side(uint32_t side, uint32_t padding, uint32_t alignment, uint32_t most);
-SMALL Result_Option_Entry_u64_CacheError atlas_cache_cache_holding_grant_u64_BuildHasherDefault_FoldHasher_FoldHasher(atlas_cache_Rooms *rooms, atlas_entries_Entries_u64_BuildHasherDefault_FoldHasher_FoldHasher *entries, uint64_t key, atlas_model_Size size, atlas_model_Size asked, uint64_t frame, uint64_t from, uint64_t to);
-SMALL ControlFlow_ErrResidual_CacheError_Option_Entry_u64 core_result_ResultTry_branch_Option_Entry_u64_CacheError(const Result_Option_Entry_u64_CacheError self);
-SMALL Result_Option_Place_CacheError core_result_ResultFromResidualErrResidual_from_residual_Option_Place_CacheError_CacheError(ErrResidual_CacheError residual);
-SMALL bool atlas_cache_rooms_Rooms_are_full(const atlas_cache_Rooms *self);
-SMALL Result_Vacated_CacheError atlas_cache_cache_TextureCache_vacate_u64_BuildHasherDefault_FoldHasher_FoldHasher(atlas_cache_TextureCache_u64_BuildHasherDefault_FoldHasher_FoldHasher *self, atlas_model_Size asked, Vec_Slot *changes);
-SMALL ControlFlow_ErrResidual_CacheError_Vacated core_result_ResultTry_branch_Vacated_CacheError(Result_Vacated_CacheError self);
-SMALL Result_Option_Inserted_CacheError core_result_ResultFromResidualErrResidual_from_residual_Option_Inserted_CacheError_CacheError(ErrResidual_CacheError residual);
-SMALL Result_Option_u32_CacheError core_result_ResultFromResidualErrResidual_from_residual_Option_u32_CacheError(void);
-SMALL Result_Option_tuple_u32_Size_CacheError atlas_cache_rooms_Rooms_grow_page(atlas_cache_Rooms *self);
-SMALL ControlFlow_ErrResidual_CacheError_Option_tuple_u32_Size core_result_ResultTry_branch_Option_tuple_u32_Size_CacheError(Result_Option_tuple_u32_Size_CacheError self);
-SMALL Result_Option_u32_CacheError core_result_ResultFromResidualErrResidual_from_residual_Option_u32_CacheError_CacheError(ErrResidual_CacheError residual);
-SMALL void std_alloc_vec_Vec_push_reserved_CacheChange_u64(Vec_Slot *self, const atlas_cache_CacheChange_u64 value);
-SMALL Result_Option_tuple_u32_Size_CacheError atlas_cache_rooms_Rooms_add_page(atlas_cache_Rooms *self);
-SMALL Option_u32 atlas_cache_cache_TextureCache_evict_u64_BuildHasherDefault_FoldHasher_FoldHasher(atlas_cache_TextureCache_u64_BuildHasherDefault_FoldHasher_FoldHasher *self, Vec_Slot *changes);
+PART Result_Option_Place_CacheError atlas_cache_cache_TextureCache_add_u64_BuildHasherDefault_FoldHasher_FoldHasher(atlas_cache_TextureCache_u64_BuildHasherDefault_FoldHasher_FoldHasher *self, uint64_t key, atlas_model_Size size, atlas_model_Size asked, uint64_t from, uint64_t to);
+SMALL ControlFlow_ErrResidual_CacheError_Option_Place core_result_ResultTry_branch_Option_Place_CacheError(Result_Option_Place_CacheError self);
+SMALL Result_Option_Inserted_CacheError atlas_cache_cache_TextureCache_insert_cleared_u64_BuildHasherDefault_FoldHasher_FoldHasher(atlas_cache_TextureCache_u64_BuildHasherDefault_FoldHasher_FoldHasher *self, uint64_t key, atlas_model_Size size, atlas_model_Size asked, uint32_t left, Vec_Slot *changes);
+SMALL ControlFlow_ErrResidual_CacheError_Option_Inserted core_result_ResultTry_branch_Option_Inserted_CacheError(Result_Option_Inserted_CacheError self);
+SMALL Result_Option_u32_CacheError atlas_cache_cache_TextureCache_make_room_u64_BuildHasherDefault_FoldHasher_FoldHasher(atlas_cache_TextureCache_u64_BuildHasherDefault_FoldHasher_FoldHasher *self, atlas_model_Size asked, Vec_Slot *changes);
+SMALL ControlFlow_ErrResidual_CacheError_Option_u32 core_result_ResultTry_branch_Option_u32_CacheError(Result_Option_u32_CacheError self);
+SMALL void atlas_cache_rooms_Rooms_prove_pages(const atlas_cache_Rooms *self);
 SMALL void atlas_entries_recency_Recency_remove(atlas_entries_Recency *self, uint32_t number);
 SMALL Option_u32 std_collections_hash_map_HashMap_remove_u64_u32_BuildHasherDefault_FoldHasher_FoldHasher_ref_u64(std_collections_HashMap_u64_u32_BuildHasherDefault_FoldHasher_FoldHasher *self, const uint64_t *key);
+SMALL uint64_t atlas_cache_rooms_repacking_area_on(const atlas_allocator_AtlasAllocator *page, atlas_model_AllocId id);
 SMALL void std_collections_index_table_IndexTable_clear(std_collections_IndexTable *self);
 SMALL void std_collections_columns_Columns_clear_u64_u32(std_collections_Columns_u64_u32 *self);
-SMALL void std_alloc_vec_Vec_clear_Link_6(Vec_Slot *self);
+SMALL void std_alloc_vec_Vec_clear_Link_7(Vec_Slot *self);
 SMALL void std_alloc_vec_Vec_truncate_Entry_u64_2(Vec_Slot *self, uint64_t n);
+SMALL void std_alloc_vec_Vec_push_reserved_CacheChange_u64(Vec_Slot *self, const atlas_cache_CacheChange_u64 value);
 SMALL Option_u32 atlas_cache_rooms_Rooms_remove_page(atlas_cache_Rooms *self);
 SMALL uint64_t atlas_cache_rooms_repacking_area_of(atlas_model_Rectangle rectangle);
 SMALL atlas_model_Size atlas_cache_rooms_repacking_size_of_box(atlas_model_Rectangle rectangle);
@@ -11036,6 +11090,7 @@ SMALL Result_ChangeList_CacheError atlas_cache_rooms_repacking_place_all(atlas_a
 SMALL ControlFlow_ErrResidual_CacheError_ChangeList core_result_ResultTry_branch_ChangeList_CacheError(Result_ChangeList_CacheError self);
 SMALL void std_alloc_vec_Vec_drop_Slot_5(Vec_Slot given_1);
 SMALL void std_alloc_vec_Vec_drop_Link_9(Vec_Slot given_1);
+SMALL void std_alloc_vec_Vec_drop_Marks_5(Vec_Slot given_1);
 SMALL void std_alloc_vec_Vec_sort_unstable_by_key_Change_u32(Vec_Slot *given_1);
 SMALL void atlas_cache_cache_repacking_settle_u64_BuildHasherDefault_FoldHasher_FoldHasher(atlas_entries_Entries_u64_BuildHasherDefault_FoldHasher_FoldHasher *entries, const atlas_cache_CacheOptions *options, slice_Change moves, uint32_t number, atlas_entries_Entry_u64 entry, Vec_Slot *changes);
 SMALL void std_alloc_vec_Vec_clear_Change_3(Vec_Slot *self);
@@ -11044,16 +11099,15 @@ SMALL void std_alloc_vec_Vec_clear_Allocation_4(Vec_Slot *self);
 SMALL void std_alloc_vec_Vec_destroy_empty_Allocation_3(Vec_Slot self);
 SMALL Result_Vec_AllocId std_alloc_vec_Vec_with_capacity_AtlasAllocator(uint64_t capacity);
 SMALL Result_Vec_AllocId core_result_ResultFromResidualErrResidual_from_residual_Vec_AtlasAllocator_AllocFailed_AtlasAllocator(const ErrResidual_AllocFailed_AtlasAllocator residual);
-SMALL slice_Refusals std_alloc_vec_Vec_as_slice_Refusals(const Vec_Slot *self);
-SMALL Result_Vec_AllocId std_alloc_vec_Vec_with_capacity_Refusals(uint64_t capacity);
-SMALL Result std_alloc_vec_Vec_extend_from_slice_Refusals(Vec_Slot *self, slice_Refusals other);
-SMALL void std_alloc_vec_Vec_drop_Refusals_3(Vec_Slot given_1);
+SMALL Result_Vec_AllocId std_alloc_vec_Vec_with_capacity_Known(uint64_t capacity);
+SMALL Result std_alloc_vec_Vec_extend_from_slice_Known(Vec_Slot *self, slice_Known other);
+SMALL void std_alloc_vec_Vec_drop_Known_3(Vec_Slot given_1);
 SMALL Result_FoldHasher core_clone_Clone_copy_clone_FoldHasher(const FoldHasher *given_1);
 SMALL uint64_t std_collections_hash_map_HashMap_len_u64_u32_BuildHasherDefault_FoldHasher_FoldHasher(const std_collections_HashMap_u64_u32_BuildHasherDefault_FoldHasher_FoldHasher *self);
 SMALL Result_HashMap_u64_u32_BuildHasherDefault_FoldHasher_FoldHasher core_result_ResultFromResidualErrResidual_from_residual_HashMap_u64_u32_BuildHasherDefault_FoldHasher_FoldHasher(void);
 SMALL std_collections_Iter_u64_u32 std_collections_hash_map_iters_RefHashMapIntoIterator_into_iter_u64_u32_BuildHasherDefault_FoldHasher_FoldHasher(const std_collections_HashMap_u64_u32_BuildHasherDefault_FoldHasher_FoldHasher *given_1);
 SMALL Option_tuple_ref_u64_ref_u32 std_collections_hash_map_iter_shared_IterIterator_next_u64_u32(std_collections_Iter_u64_u32 *self);
-SMALL Result_Option_u32_AllocFailed_tuple_u64_u32 std_collections_hash_map_HashMap_insert_u64_u32_BuildHasherDefault_FoldHasher_FoldHasher(std_collections_HashMap_u64_u32_BuildHasherDefault_FoldHasher_FoldHasher *self, uint64_t key, uint32_t value);
+PART Result_Option_u32_AllocFailed_tuple_u64_u32 std_collections_hash_map_HashMap_insert_u64_u32_BuildHasherDefault_FoldHasher_FoldHasher(std_collections_HashMap_u64_u32_BuildHasherDefault_FoldHasher_FoldHasher *self, uint64_t key, uint32_t value);
 SMALL ControlFlow_ErrResidual_AllocFailed_tuple_u64_u32_Option_u32 core_result_ResultTry_branch_Option_u32_AllocFailed_tuple_u64_u32(Result_Option_u32_AllocFailed_tuple_u64_u32 self);
 SMALL Result_HashMap_u64_u32_BuildHasherDefault_FoldHasher_FoldHasher core_result_ResultFromResidualErrResidual_from_residual_HashMap_u64_u32_BuildHasherDefault_FoldHasher_FoldHasher_AllocFailed_tuple_u64_u32(ErrResidual_AllocFailed_tuple_u64_u32 residual);
 SMALL slice_Link_4 std_alloc_vec_derefs_VecDerefSlice_deref_Link_2(const Vec_Slot *self);
@@ -11067,7 +11121,7 @@ SMALL void std_alloc_vec_Vec_drop_Entry_u64_2(Vec_Slot given_1);
 SMALL void std_alloc_vec_Vec_destroy_empty_Link_5(Vec_Slot self);
 SMALL void std_alloc_vec_Vec_truncate_AtlasAllocator_3(Vec_Slot *self, uint64_t n);
 SMALL void atlas_cache_Destruct_none_drop(void);
-SMALL void std_alloc_vec_Vec_truncate_Refusals_2(Vec_Slot *self, uint64_t n);
+SMALL void std_alloc_vec_Vec_truncate_Known_2(Vec_Slot *self, uint64_t n);
 SMALL bool std_alloc_room_may_hold_CacheChange_u64(uint64_t n);
 SMALL Result_ptr std_alloc_vec_resize_CacheChange_u64(const void *alloc, void *ptr, uint64_t len, uint64_t old_cap, uint64_t new_cap);
 SMALL Slots_CacheChange_u64 core_slots_Slots_from_raw_parts_CacheChange_u64(void *ptr, uint64_t len);
@@ -11076,7 +11130,7 @@ SMALL tuple_ptr_u64 core_slots_Slots_into_raw_parts_CacheChange_u64(Slots_CacheC
 SMALL void std_alloc_vec_Vec_truncate_CacheChange_u64_2(Vec_Slot *self, uint64_t n);
 SMALL atlas_entries_Link atlas_entries_recency_links_read_link(slice_Link_4 links, atlas_entries_Link ends, uint32_t at);
 SMALL uint64_t std_collections_hash_map_HashMap_spare_u64_u32_BuildHasherDefault_FoldHasher_FoldHasher(const std_collections_HashMap_u64_u32_BuildHasherDefault_FoldHasher_FoldHasher *self);
-PART Result std_collections_hash_map_HashMap_grow_u64_u32_BuildHasherDefault_FoldHasher_FoldHasher(std_collections_HashMap_u64_u32_BuildHasherDefault_FoldHasher_FoldHasher *self, uint64_t additional);
+SMALL Result std_collections_hash_map_HashMap_grow_u64_u32_BuildHasherDefault_FoldHasher_FoldHasher(std_collections_HashMap_u64_u32_BuildHasherDefault_FoldHasher_FoldHasher *self, uint64_t additional);
 SMALL bool std_alloc_vec_Vec_grow_Entry_u64(Vec_Slot *self, uint64_t additional);
 SMALL Result std_alloc_vec_Vec_reserve_Link(Vec_Slot *self, uint64_t additional);
 SMALL Result_AllocFailed_Vec_bool std_alloc_vec_Vec_push_Vec_bool(Vec_Slot *self, Vec_Slot value);
@@ -11103,7 +11157,7 @@ SMALL void std_alloc_vec_opened_drop_run_u64(Slots_CacheChange_u64 *row, uint64_
 SMALL atlas_model_Size atlas_sheet_allowed_Allowed_least(atlas_sheet_Allowed self);
 SMALL atlas_model_Size atlas_sheet_allowed_Allowed_greatest(atlas_sheet_Allowed self);
 SMALL Result_SheetError atlas_sheet_filling_check_sprite(uint64_t number, atlas_model_Size sprite, atlas_sheet_Spacing spacing);
-PART Result_Vec_Size_SheetError atlas_sheet_orders_numbered(slice_Size sprites);
+SMALL Result_Vec_Size_SheetError atlas_sheet_orders_numbered(slice_Size sprites);
 SMALL Result_Vec_Size_SheetError core_result_ResultFromResidualErrResidual_from_residual_Vec_tuple_u64_Size_SheetError_SheetError(ErrResidual_SheetError residual);
 SMALL Result std_alloc_vec_Vec_sort_by_key_tuple_u64_Size_Reverse_u64(Vec_Slot *given_1);
 SMALL void std_alloc_vec_Vec_clear_Placed_2(Vec_Slot *self);
@@ -11199,20 +11253,29 @@ SMALL void std_alloc_vec_Vec_free_block_tuple_u64_Size(Vec_Slot self);
 SMALL void std_alloc_vec_Vec_truncate_Option_Rectangle(Vec_Slot *self, uint64_t n);
 SMALL void std_alloc_vec_Vec_free_block_Option_Rectangle(Vec_Slot self);
 SMALL void std_alloc_vec_opened_drop_run_Option_Placed(Slots_CacheChange_u64 *row, uint64_t from, uint64_t to);
-SMALL bool std_alloc_room_may_hold_Slot(uint64_t n);
-SMALL Result_ptr std_alloc_vec_resize_Slot(const void *alloc, void *ptr, uint64_t len, uint64_t old_cap, uint64_t new_cap);
-SMALL void std_alloc_vec_Vec_drop_Link_10(Vec_Slot given_1);
 SMALL void core_ptr_copy_drop_copy_bits_Slot(void *src, void *dst, uint64_t count);
 SMALL void std_alloc_vec_Vec_truncate_Slot_4(Vec_Slot *self, uint64_t n);
 SMALL bool std_alloc_vec_Vec_move_to_Link(Vec_Slot *self, uint64_t cap);
 SMALL bool std_alloc_vec_Vec_grow_Link(Vec_Slot *self, uint64_t additional);
 SMALL void core_slots_Slots_copy_in_Link(Slots_CacheChange_u64 *self, uint64_t to, slice_Link src);
-SMALL void std_alloc_vec_Vec_clear_Link_7(Vec_Slot *self);
+SMALL void std_alloc_vec_Vec_clear_Link_8(Vec_Slot *self);
+SMALL bool std_alloc_vec_Vec_move_to_Marks(Vec_Slot *self, uint64_t cap);
+SMALL void std_alloc_vec_Vec_destroy_empty_Marks_4(Vec_Slot self);
+SMALL void std_alloc_vec_Vec_put_Marks(Vec_Slot *self, const atlas_search_Marks x);
+SMALL void std_alloc_vec_Vec_truncate_Link_6(Vec_Slot *self, uint64_t n);
 SMALL void std_alloc_vec_Vec_truncate_within_Slot_3(Vec_Slot *self, uint64_t n);
+SMALL void std_alloc_vec_Vec_truncate_Link_7(Vec_Slot *self, uint64_t n);
+SMALL Result std_alloc_vec_Vec_extend_with_Link(Vec_Slot *self, uint64_t n, atlas_search_Link x);
+SMALL atlas_search_Link *std_alloc_vec_lends_VecIndexMutUsize_index_mut_Link(Vec_Slot *self, uint64_t index);
+SMALL void atlas_search_marks_Marks_mark(atlas_search_Marks *self, atlas_search_Place at);
+SMALL void std_alloc_vec_Vec_truncate_within_Link_5(Vec_Slot *self, uint64_t n);
+SMALL void std_alloc_vec_Vec_truncate_within_Marks_4(Vec_Slot *self, uint64_t n);
 SMALL atlas_store_Slot core_slots_Slots_take_Slot(Slots_CacheChange_u64 *self, uint64_t i);
 SMALL void core_mem_drop_Slot(atlas_store_Slot x);
 SMALL atlas_search_Link core_slots_Slots_take_Link(Slots_CacheChange_u64 *self, uint64_t i);
 SMALL void core_mem_drop_Link(atlas_search_Link x);
+SMALL atlas_search_Marks core_slots_Slots_take_Marks(Slots_CacheChange_u64 *self, uint64_t i);
+SMALL void core_mem_drop_Marks(const atlas_search_Marks x);
 SMALL atlas_store_Ring atlas_store_slots_read_ring(slice_Slot slots, atlas_search_Link at);
 SMALL atlas_search_Link atlas_search_heap_remove_Slot(slice_Slot_2 entries, atlas_search_Link at);
 SMALL void atlas_store_slots_lists_set_top(atlas_search_Table *lists, atlas_search_Link up, atlas_search_Link first);
@@ -11228,6 +11291,7 @@ SMALL atlas_search_Link atlas_store_slots_lists_Recent_in_list(const atlas_store
 SMALL atlas_search_Link atlas_search_heap_push_Slot(slice_Slot_2 entries, atlas_search_Link tag_, atlas_search_Link top,
         atlas_search_Link near_, atlas_search_Link at);
 SMALL void atlas_store_slots_write_node(slice_Slot_2 slots, atlas_search_Link at, atlas_store_Node node);
+SMALL Result_ptr std_heap_GlobalAllocator_grow_Slot(const void *self, void *ptr, uint64_t len, uint64_t _old_cap, uint64_t new_cap);
 SMALL uint64_t std_alloc_vec_least_capacity_Slot(void);
 SMALL atlas_search_Link atlas_store_slots_lists_take_slot(Vec_Slot *slots, atlas_search_Link *unused);
 SMALL atlas_model_Rectangle atlas_search_cut_beyond(atlas_model_Rectangle area, atlas_search_Orientation axis, atlas_model_Size size);
@@ -11238,6 +11302,8 @@ SMALL uint64_t atlas_search_bands_step(uint32_t side);
 SMALL uint64_t atlas_search_bands_passed(uint32_t side, uint32_t threshold);
 SMALL void atlas_search_search_search_list_Slot(slice_Slot entries, const atlas_search_Table *table, atlas_search_Place place,
         atlas_search_Best *best);
+SMALL uint64_t atlas_search_table_Table_list_of_few(const atlas_search_Table *self, uint64_t i);
+SMALL void atlas_search_search_show_list_Slot(slice_Slot entries, atlas_search_Link top, atlas_search_Best *best);
 SMALL uint64_t std_alloc_vec_least_capacity_Allocation(void);
 SMALL bool std_alloc_vec_Vec_move_to_Allocation(Vec_Slot *self, uint64_t cap);
 SMALL void std_alloc_vec_Vec_truncate_within_Allocation_3(Vec_Slot *self, uint64_t n);
@@ -11257,7 +11323,7 @@ SMALL bool std_alloc_vec_Vec_move_to_Change(Vec_Slot *self, uint64_t cap);
 SMALL void core_mem_drop_Allocation_2(atlas_model_Allocation x);
 SMALL void std_alloc_vec_opened_drop_run_Slot_2(Slots_CacheChange_u64 *row, uint64_t from, uint64_t to);
 SMALL void std_alloc_vec_opened_drop_run_Link_3(Slots_CacheChange_u64 *row, uint64_t from, uint64_t to);
-SMALL void std_alloc_vec_Vec_truncate_Link_5(Vec_Slot *self, uint64_t n);
+SMALL void std_alloc_vec_opened_drop_run_Marks_2(Slots_CacheChange_u64 *row, uint64_t from, uint64_t to);
 SMALL atlas_model_AllocId core_slots_Slots_take_AllocId(Slots_CacheChange_u64 *self, uint64_t i);
 SMALL void core_mem_drop_AllocId(atlas_model_AllocId x);
 SMALL void std_alloc_vec_opened_drop_run_FreeBox(Slots_CacheChange_u64 *row, uint64_t from, uint64_t to);
@@ -11267,11 +11333,13 @@ SMALL void atlas_search_search_search_column_FreeBox(slice_FreeBox entries, cons
         atlas_search_Mask rows, atlas_search_Best *best);
 SMALL void atlas_search_search_search_rows_FreeBox(slice_FreeBox entries, const atlas_search_Table *table, atlas_search_Mask rows,
         uint64_t first, uint64_t end, atlas_search_Best *best);
+SMALL void atlas_search_search_search_few_FreeBox(slice_FreeBox entries, const atlas_search_Table *table, uint64_t end,
+        atlas_search_Best *best);
 SMALL void guillotiere_simple_boxes_FreeBoxes_unlist(guillotiere_FreeBoxes *self, atlas_search_Link at);
-SMALL bool std_alloc_vec_Vec_grow_amortized_FreeBox(Vec_Slot *self, uint64_t additional);
+COLD bool std_alloc_vec_Vec_grow_amortized_FreeBox(Vec_Slot *self, uint64_t additional);
 SMALL void std_alloc_vec_opened_drop_run_FreeBox_2(Slots_CacheChange_u64 *row, uint64_t from, uint64_t to);
 SMALL void std_alloc_vec_Vec_put_FreeBox(Vec_Slot *self, guillotiere_FreeBox x);
-SMALL const atlas_search_Link *std_alloc_vec_derefs_VecIndexUsize_index_Link(const Vec_Slot *self, uint64_t index);
+SMALL atlas_search_Link atlas_search_table_Table_first(const atlas_search_Table *self, uint64_t number);
 SMALL bool atlas_search_heap_is_place_FreeBox(slice_FreeBox entries, atlas_search_Link near_, atlas_search_Link at);
 SMALL void atlas_search_heap_put_FreeBox(slice_FreeBox_2 entries, atlas_search_Link at, atlas_search_Link up, atlas_search_Link left,
         atlas_search_Link right, bool is_fork);
@@ -11282,15 +11350,16 @@ SMALL atlas_model_Size atlas_search_heap_size_at_FreeBox(slice_FreeBox entries, 
 SMALL atlas_search_Cell atlas_search_cells_Cell_around(atlas_model_Size size);
 PART atlas_search_Link atlas_search_heap_sort_in_FreeBox(slice_FreeBox_2 entries, atlas_search_Cell cell, atlas_search_Link up,
         atlas_search_Link top, atlas_search_Link at);
-SMALL atlas_search_Link *std_alloc_vec_lends_VecIndexMutUsize_index_mut_Link(Vec_Slot *self, uint64_t index);
-SMALL void atlas_search_marks_Marks_mark(atlas_search_Marks *self, atlas_search_Place at);
+SMALL void atlas_search_table_raise_in(Vec_Slot *heads, Vec_Slot *marks, uint64_t emptied, atlas_search_Place at, atlas_search_Link first);
+COLD void atlas_search_table_set_head_in(array_u16_8 *only, uint64_t number, atlas_search_Link first);
 SMALL Result_ptr std_heap_GlobalAllocator_grow_FreeBox(const void *self, void *ptr, uint64_t len, uint64_t _old_cap, uint64_t new_cap);
-SMALL void std_alloc_vec_Vec_clear_Link_8(Vec_Slot *self);
 SMALL void std_alloc_vec_opened_drop_run_Link_4(Slots_CacheChange_u64 *row, uint64_t from, uint64_t to);
+SMALL void std_alloc_vec_opened_drop_run_Marks_3(Slots_CacheChange_u64 *row, uint64_t from, uint64_t to);
 SMALL Result_Option_tuple_AtlasAllocator_Allocation_AtlasError core_result_ResultFromResidualErrResidual_from_residual_Option_tuple_AtlasAllocator_Allocation_AtlasError_AtlasError(ErrResidual_AtlasError residual);
 SMALL Result_Option_Allocation_AtlasError atlas_pages_paged_steps_first_on(atlas_allocator_AtlasAllocator *page, atlas_model_Size size);
 SMALL void std_alloc_vec_Vec_drop_Slot_6(Vec_Slot given_1);
-SMALL void std_alloc_vec_Vec_drop_Link_11(Vec_Slot given_1);
+SMALL void std_alloc_vec_Vec_drop_Link_10(Vec_Slot given_1);
+SMALL void std_alloc_vec_Vec_drop_Marks_6(Vec_Slot given_1);
 SMALL bool std_alloc_vec_Vec_grow_AtlasAllocator(Vec_Slot *self, uint64_t additional);
 SMALL void std_alloc_vec_Vec_put_AtlasAllocator(Vec_Slot *self, const atlas_allocator_AtlasAllocator x);
 SMALL atlas_model_AtlasError atlas_model_error_AtlasErrorFromAllocFailed_from_AtlasAllocator(const AllocFailed_AtlasAllocator _error);
@@ -11299,8 +11368,8 @@ SMALL atlas_allocator_AtlasAllocator core_slots_Slots_take_AtlasAllocator(Slots_
 SMALL void core_mem_drop_AtlasAllocator_2(const atlas_allocator_AtlasAllocator x);
 SMALL std_collections_Columns_u64_u32 std_collections_columns_Columns_new_u64_u32(void);
 SMALL std_collections_IndexTable std_collections_index_table_IndexTable_new(void);
-SMALL atlas_cache_Refusals core_slots_Slots_take_Refusals(Slots_CacheChange_u64 *self, uint64_t i);
-SMALL void core_mem_drop_Refusals(atlas_cache_Refusals x);
+SMALL atlas_cache_Known core_slots_Slots_take_Known(Slots_CacheChange_u64 *self, uint64_t i);
+SMALL void core_mem_drop_Known(atlas_cache_Known x);
 SMALL uint64_t std_alloc_vec_Vec_len_u64_Later(const Vec_u64_Later *self);
 SMALL void std_alloc_vec_Vec_truncate_within_u64_Later(Vec_u64_Later *self, uint64_t n);
 SMALL void std_collections_later_LaterAllocator_deallocate(const std_collections_Later *self, void *ptr, uint64_t size, uint64_t align);
@@ -11343,24 +11412,19 @@ SMALL Result_u32_CacheError core_result_ResultFromResidualErrResidual_from_resid
 SMALL Result_u32_CacheError atlas_entries_recency_Recency_push(atlas_entries_Recency *self);
 SMALL void atlas_entries_entries_store_u64(Vec_Slot *items, uint32_t number, atlas_entries_Entry_u64 entry);
 SMALL void atlas_entries_entries_bind_u64_BuildHasherDefault_FoldHasher_FoldHasher(std_collections_HashMap_u64_u32_BuildHasherDefault_FoldHasher_FoldHasher *map, uint64_t key, uint32_t number);
-SMALL Result_Option_tuple_u32_Allocation_CacheError atlas_cache_rooms_Rooms_place_among(atlas_cache_Rooms *self, uint64_t from,
-        uint64_t to, atlas_model_Size asked);
-SMALL Result_Option_Entry_u64_CacheError core_result_ResultFromResidualErrResidual_from_residual_Option_Entry_u64_CacheError_CacheError(ErrResidual_CacheError residual);
-SMALL Option_tuple_u64_Size atlas_cache_rooms_first_to_grow(slice_AtlasAllocator pages, atlas_model_Size largest);
-SMALL bool core_option_Option_is_none_tuple_u64_Size(const Option_tuple_u64_Size *self);
-SMALL Option_tuple_u32_Entry_u64 atlas_cache_cache_holding_oldest_lying_u64_BuildHasherDefault_FoldHasher_FoldHasher(atlas_entries_Entries_u64_BuildHasherDefault_FoldHasher_FoldHasher *entries);
-SMALL Result_Option_Vacancy atlas_cache_cache_vacating_find_vacancy_u64_BuildHasherDefault_FoldHasher_FoldHasher(const atlas_cache_Rooms *rooms, const atlas_entries_Entries_u64_BuildHasherDefault_FoldHasher_FoldHasher *entries, Vec_Slot *marks, uint64_t frame, atlas_model_Size asked);
-SMALL uint64_t atlas_cache_cache_vacating_inside_u64_BuildHasherDefault_FoldHasher_FoldHasher(const atlas_entries_Entries_u64_BuildHasherDefault_FoldHasher_FoldHasher *entries, uint64_t count, uint32_t page, const atlas_model_Rectangle *area);
-SMALL Result_Vacated_CacheError core_result_ResultFromResidualErrResidual_from_residual_Vacated_CacheError(void);
-SMALL void atlas_cache_cache_vacating_clear_u64_BuildHasherDefault_FoldHasher_FoldHasher(atlas_cache_Rooms *rooms,
-        atlas_entries_Entries_u64_BuildHasherDefault_FoldHasher_FoldHasher *entries, atlas_cache_Counts *counts, uint64_t frame,
-        const atlas_cache_Vacancy *vacancy, Vec_Slot *changes);
-SMALL atlas_model_Size atlas_cache_rooms_grown(atlas_model_Size size, atlas_model_Size largest);
-SMALL void std_alloc_vec_Vec_put_CacheChange_u64(Vec_Slot *self, const atlas_cache_CacheChange_u64 x);
-SMALL Result std_alloc_vec_Vec_reserve_Refusals(Vec_Slot *self, uint64_t additional);
-SMALL Result_Option_tuple_u32_Size_CacheError core_result_ResultFromResidualErrResidual_from_residual_Option_tuple_u32_Size_CacheError(void);
-SMALL Result_Option_tuple_u32_Size_CacheError core_result_ResultFromResidualErrResidual_from_residual_Option_tuple_u32_Size_AllocFailed_AtlasAllocator_CacheError(const ErrResidual_AllocFailed_AtlasAllocator residual);
-SMALL void std_alloc_vec_Vec_push_reserved_Refusals(Vec_Slot *self, atlas_cache_Refusals value);
+SMALL Result_Option_Entry_u64_CacheError atlas_cache_cache_holding_grant_u64_BuildHasherDefault_FoldHasher_FoldHasher(atlas_cache_Rooms *rooms, atlas_entries_Entries_u64_BuildHasherDefault_FoldHasher_FoldHasher *entries, uint64_t key, atlas_model_Size size, atlas_model_Size asked, uint64_t frame, uint64_t from, uint64_t to);
+SMALL ControlFlow_ErrResidual_CacheError_Option_Entry_u64 core_result_ResultTry_branch_Option_Entry_u64_CacheError(const Result_Option_Entry_u64_CacheError self);
+SMALL Result_Option_Place_CacheError core_result_ResultFromResidualErrResidual_from_residual_Option_Place_CacheError_CacheError(ErrResidual_CacheError residual);
+SMALL bool atlas_cache_rooms_Rooms_are_full(const atlas_cache_Rooms *self);
+SMALL Result_Vacated_CacheError atlas_cache_cache_TextureCache_vacate_u64_BuildHasherDefault_FoldHasher_FoldHasher(atlas_cache_TextureCache_u64_BuildHasherDefault_FoldHasher_FoldHasher *self, atlas_model_Size asked, Vec_Slot *changes);
+SMALL ControlFlow_ErrResidual_CacheError_Vacated core_result_ResultTry_branch_Vacated_CacheError(Result_Vacated_CacheError self);
+SMALL Result_Option_Inserted_CacheError core_result_ResultFromResidualErrResidual_from_residual_Option_Inserted_CacheError_CacheError(ErrResidual_CacheError residual);
+SMALL Result_Option_u32_CacheError core_result_ResultFromResidualErrResidual_from_residual_Option_u32_CacheError(void);
+SMALL Result_Option_tuple_u32_Size_CacheError atlas_cache_rooms_Rooms_grow_page(atlas_cache_Rooms *self);
+SMALL ControlFlow_ErrResidual_CacheError_Option_tuple_u32_Size core_result_ResultTry_branch_Option_tuple_u32_Size_CacheError(Result_Option_tuple_u32_Size_CacheError self);
+SMALL Result_Option_u32_CacheError core_result_ResultFromResidualErrResidual_from_residual_Option_u32_CacheError_CacheError(ErrResidual_CacheError residual);
+SMALL Result_Option_tuple_u32_Size_CacheError atlas_cache_rooms_Rooms_add_page(atlas_cache_Rooms *self);
+SMALL Option_u32 atlas_cache_cache_TextureCache_evict_u64_BuildHasherDefault_FoldHasher_FoldHasher(atlas_cache_TextureCache_u64_BuildHasherDefault_FoldHasher_FoldHasher *self, Vec_Slot *changes);
 SMALL void atlas_entries_recency_give_back(slice_Link_3 links, atlas_entries_Link *ends, uint32_t at, uint32_t unused);
 SMALL Option_tuple_u64_u32 std_collections_hash_map_HashMap_remove_entry_u64_u32_BuildHasherDefault_FoldHasher_FoldHasher_ref_u64(std_collections_HashMap_u64_u32_BuildHasherDefault_FoldHasher_FoldHasher *self, const uint64_t *key);
 SMALL void atlas_entries_Destruct_none_drop_u64(uint64_t given_1);
@@ -11368,10 +11432,10 @@ SMALL slice_Group std_alloc_vec_Vec_as_mut_slice_Group_Later(Vec_u64_Later *self
 SMALL void std_collections_index_table_probe_clear_groups(slice_Group groups);
 SMALL void std_alloc_vec_Vec_clear_u64_Later_2(Vec_u64_Later *self);
 SMALL void std_alloc_vec_Vec_clear_u32_Later_2(Vec_u64_Later *self);
-SMALL void std_alloc_vec_Vec_truncate_Link_6(Vec_Slot *self, uint64_t n);
+SMALL void std_alloc_vec_Vec_truncate_Link_8(Vec_Slot *self, uint64_t n);
 SMALL void std_alloc_vec_Vec_truncate_within_Entry_u64_2(Vec_Slot *self, uint64_t n);
-SMALL uint64_t atlas_cache_rooms_usable_extent(uint32_t from, uint32_t to);
-SMALL Result_Option_Allocation_AtlasError atlas_cache_rooms_asking_ask(atlas_allocator_AtlasAllocator *page, atlas_cache_Refusals *refused,
+SMALL void std_alloc_vec_Vec_put_CacheChange_u64(Vec_Slot *self, const atlas_cache_CacheChange_u64 x);
+SMALL Result_Option_Allocation_AtlasError atlas_cache_rooms_asking_ask(atlas_allocator_AtlasAllocator *page, atlas_cache_Known *known,
         atlas_model_Size asked);
 SMALL atlas_entries_CacheError atlas_entries_error_CacheErrorFromAllocFailed_from_Allocation(AllocFailed_Allocation _error);
 SMALL Result std_alloc_vec_Vec_sort_by_key_Allocation_Reverse_u64(Vec_Slot *given_1);
@@ -11385,16 +11449,18 @@ SMALL void std_alloc_vec_Vec_clear_Slot_5(Vec_Slot *self);
 SMALL void std_alloc_vec_Vec_destroy_empty_Slot_3(Vec_Slot self);
 SMALL void std_alloc_vec_Vec_clear_Link_9(Vec_Slot *self);
 SMALL void std_alloc_vec_Vec_destroy_empty_Link_6(Vec_Slot self);
+SMALL void std_alloc_vec_Vec_clear_Marks_5(Vec_Slot *self);
+SMALL void std_alloc_vec_Vec_destroy_empty_Marks_5(Vec_Slot self);
 SMALL slice_Change_2 std_alloc_vec_Vec_as_mut_slice_Change(Vec_Slot *self);
 SMALL void core_slice_sort_slice_T_sort_unstable_by_key_Change_u32(slice_Change_2 given_1);
 SMALL Option_Change atlas_cache_cache_repacking_change_for(slice_Change changes, atlas_model_AllocId id);
 SMALL void std_alloc_vec_Vec_truncate_Change_3(Vec_Slot *self, uint64_t n);
 SMALL bool std_alloc_vec_Vec_move_to_AtlasAllocator(Vec_Slot *self, uint64_t cap);
 SMALL void std_alloc_room_AllocErrorFromAllocFailed_from_AtlasAllocator(const AllocFailed_AtlasAllocator given_1);
-SMALL bool std_alloc_vec_Vec_move_to_Refusals(Vec_Slot *self, uint64_t cap);
-SMALL bool std_alloc_vec_Vec_grow_Refusals(Vec_Slot *self, uint64_t additional);
-SMALL void core_slots_Slots_copy_in_Refusals(Slots_CacheChange_u64 *self, uint64_t to, slice_Refusals src);
-SMALL void std_alloc_vec_Vec_clear_Refusals_3(Vec_Slot *self);
+SMALL bool std_alloc_vec_Vec_move_to_Known(Vec_Slot *self, uint64_t cap);
+SMALL bool std_alloc_vec_Vec_grow_Known(Vec_Slot *self, uint64_t additional);
+SMALL void core_slots_Slots_copy_in_Known(Slots_CacheChange_u64 *self, uint64_t to, slice_Known src);
+SMALL void std_alloc_vec_Vec_clear_Known_3(Vec_Slot *self);
 SMALL uint64_t std_collections_columns_Columns_len_u64_u32(const std_collections_Columns_u64_u32 *self);
 SMALL std_collections_Iter_u64_u32 std_collections_hash_map_HashMap_iter_u64_u32_BuildHasherDefault_FoldHasher_FoldHasher(const std_collections_HashMap_u64_u32_BuildHasherDefault_FoldHasher_FoldHasher *self);
 SMALL Option_tuple_ref_u64_ref_u32 std_collections_pairs_PairsIterator_next_u64_u32(std_collections_Pairs_u64_u32 *self);
@@ -11403,9 +11469,9 @@ SMALL bool std_collections_hash_map_HashMap_make_room_u64_u32_BuildHasherDefault
 SMALL void std_collections_hash_map_HashMap_push_u64_u32_BuildHasherDefault_FoldHasher_FoldHasher(std_collections_HashMap_u64_u32_BuildHasherDefault_FoldHasher_FoldHasher *self, uint32_t hash, uint64_t key, uint32_t value);
 SMALL void std_alloc_room_AllocErrorFromAllocFailed_from_tuple_u64_u32(AllocFailed_tuple_u64_u32 given_1);
 SMALL slice_Link_4 std_alloc_vec_Vec_as_slice_Link_2(const Vec_Slot *self);
-SMALL Result_Vec_AllocId std_alloc_vec_Vec_with_capacity_Link_3(uint64_t capacity);
+SMALL Result_Vec_AllocId std_alloc_vec_Vec_with_capacity_Link_2(uint64_t capacity);
 SMALL Result std_alloc_vec_Vec_extend_from_slice_Link_2(Vec_Slot *self, slice_Link_4 other);
-SMALL void std_alloc_vec_Vec_drop_Link_12(Vec_Slot given_1);
+SMALL void std_alloc_vec_Vec_drop_Link_11(Vec_Slot given_1);
 SMALL void std_alloc_vec_Vec_drop_u64_Later_2(Vec_u64_Later given_1);
 SMALL void std_alloc_vec_Vec_drop_u32_Later_2(Vec_u64_Later given_1);
 SMALL void core_mem_drop_2(void);
@@ -11417,7 +11483,7 @@ SMALL void core_slots_Slots_copy_in_Entry_u64(Slots_CacheChange_u64 *self, uint6
 SMALL void std_alloc_vec_Vec_clear_Entry_u64_3(Vec_Slot *self);
 SMALL void atlas_entries_Destruct_none_drop(void);
 SMALL void std_alloc_vec_Vec_truncate_within_AtlasAllocator_3(Vec_Slot *self, uint64_t n);
-SMALL void std_alloc_vec_Vec_truncate_within_Refusals_2(Vec_Slot *self, uint64_t n);
+SMALL void std_alloc_vec_Vec_truncate_within_Known_2(Vec_Slot *self, uint64_t n);
 SMALL Result_ptr std_heap_GlobalAllocator_grow_CacheChange_u64(const void *self, void *ptr, uint64_t len, uint64_t _old_cap,
         uint64_t new_cap);
 SMALL void std_alloc_vec_Vec_truncate_within_CacheChange_u64_2(Vec_Slot *self, uint64_t n);
@@ -11427,13 +11493,13 @@ SMALL uint64_t std_collections_index_table_IndexTable_growth_left(const std_coll
 SMALL const void *std_collections_columns_Columns_allocator_u64_u32(const std_collections_Columns_u64_u32 *self);
 SMALL Result std_collections_index_table_IndexTable_reserve(std_collections_IndexTable *self, const void *alloc, uint64_t additional);
 SMALL Result std_collections_columns_Columns_reserve_u64_u32(std_collections_Columns_u64_u32 *self, uint64_t additional);
-SMALL bool std_alloc_vec_Vec_grow_amortized_Entry_u64(Vec_Slot *self, uint64_t additional);
+COLD bool std_alloc_vec_Vec_grow_amortized_Entry_u64(Vec_Slot *self, uint64_t additional);
 SMALL bool std_alloc_vec_Vec_grow_Link_2(Vec_Slot *self, uint64_t additional);
 SMALL bool std_alloc_vec_Vec_grow_Vec_bool(Vec_Slot *self, uint64_t additional);
 SMALL void std_alloc_vec_Vec_put_Vec_bool(Vec_Slot *self, Vec_Slot x);
 SMALL void std_alloc_room_AllocErrorFromAllocFailed_from_Vec_bool(AllocFailed_Vec_bool given_1);
 SMALL void std_alloc_vec_Vec_truncate_within_bool(Vec_Slot *self, uint64_t n);
-SMALL bool std_alloc_vec_Vec_grow_amortized_bool(Vec_Slot *self, uint64_t additional);
+COLD bool std_alloc_vec_Vec_grow_amortized_bool(Vec_Slot *self, uint64_t additional);
 SMALL void std_alloc_vec_Vec_truncate_Rectangle_3(Vec_Slot *self, uint64_t n);
 SMALL Result std_alloc_vec_copies_extend_items_Size_Size_Map_Iter_PlainSize_Map_Iter_PlainSize(Vec_Slot *to, Map_Iter_PlainSize iter);
 SMALL Result_Option_Arrangement_SheetError atlas_sheet_packing_first_found(slice_Size sprites, const atlas_sheet_SheetOptions *options);
@@ -11482,7 +11548,7 @@ SMALL bool atlas_sheet_paging_fn_is_bare_all_FnMut_call_mut(void *given_1, const
 SMALL void std_alloc_vec_Vec_truncate_Option_Placed_2(Vec_Slot *self, uint64_t n);
 SMALL bool std_alloc_vec_Vec_grow_Option_OnPage(Vec_Slot *self, uint64_t additional);
 SMALL atlas_sheet_SheetError atlas_sheet_error_SheetErrorFromAllocFailed_from_Option_OnPage(AllocFailed_Option_OnPage _error);
-SMALL bool std_alloc_vec_Vec_grow_amortized_Size(Vec_Slot *self, uint64_t additional);
+COLD bool std_alloc_vec_Vec_grow_amortized_Size(Vec_Slot *self, uint64_t additional);
 SMALL void atlas_sheet_Destruct_none_drop_Size(atlas_model_Size given_1);
 SMALL bool std_alloc_vec_Vec_grow_OnPage(Vec_Slot *self, uint64_t additional);
 SMALL void std_alloc_vec_Vec_put_OnPage(Vec_Slot *self, atlas_sheet_OnPage x);
@@ -11516,7 +11582,7 @@ PART Result_Option_Chosen_SheetError atlas_sheet_choosing_opened(slice_Size spri
         const atlas_sheet_SheetOptions *options, uint64_t group);
 SMALL ControlFlow_ErrResidual_SheetError_Option_Chosen core_result_ResultTry_branch_Option_Chosen_SheetError(const Result_Option_Chosen_SheetError self);
 SMALL bool core_option_Option_is_some_Chosen(const Option_Chosen *self);
-PART Result_Vec_Size_SheetError atlas_sheet_groups_without(uint64_t group, slice_Option_u64 groups);
+SMALL Result_Vec_Size_SheetError atlas_sheet_groups_without(uint64_t group, slice_Option_u64 groups);
 SMALL Result_Option_OneSheet_SheetError atlas_sheet_choosing_group_sheet(slice_Size sprites, slice_Option_u64 groups,
         const atlas_sheet_SheetOptions *options, uint64_t group);
 SMALL ControlFlow_ErrResidual_SheetError_Option_OneSheet core_result_ResultTry_branch_Option_OneSheet_SheetError(Result_Option_OneSheet_SheetError self);
@@ -11539,7 +11605,6 @@ SMALL Result_Asking_SheetError atlas_sheet_changes_change_of(atlas_sheet_Random 
         slice_tuple_u64_Size from_order);
 SMALL ControlFlow_ErrResidual_SheetError_Asking core_result_ResultTry_branch_Asking_SheetError(Result_Asking_SheetError self);
 SMALL uint64_t atlas_sheet_filling_from_zero(uint32_t coordinate);
-SMALL uint64_t core_int_u64_saturating_sub(uint64_t self, uint64_t second);
 SMALL bool std_alloc_vec_Vec_move_to_u64(Vec_Slot *self, uint64_t cap);
 SMALL Result std_alloc_vec_copies_extend_items_u64_u64_Map_Iter_tuple_u64_Size_Map_Iter_tuple_u64_Size(Vec_Slot *to,
         Map_Iter_tuple_u64_Size iter);
@@ -11551,16 +11616,24 @@ SMALL void std_alloc_vec_Vec_truncate_within_tuple_u64_Size(Vec_Slot *self, uint
 SMALL void std_alloc_vec_Vec_truncate_within_Option_Rectangle(Vec_Slot *self, uint64_t n);
 SMALL Option_Placed core_slots_Slots_take_Option_Placed(Slots_CacheChange_u64 *self, uint64_t i);
 SMALL void core_mem_drop_Option_Placed(Option_Placed x);
-SMALL Result_ptr std_heap_GlobalAllocator_grow_Slot(const void *self, void *ptr, uint64_t len, uint64_t _old_cap, uint64_t new_cap);
 SMALL void std_alloc_vec_Vec_truncate_within_Slot_4(Vec_Slot *self, uint64_t n);
 SMALL bool std_alloc_room_may_hold_Link(uint64_t n);
 SMALL Result_ptr std_alloc_vec_resize_Link(const void *alloc, void *ptr, uint64_t len, uint64_t old_cap, uint64_t new_cap);
-SMALL bool std_alloc_vec_Vec_grow_amortized_Link(Vec_Slot *self, uint64_t additional);
+COLD bool std_alloc_vec_Vec_grow_amortized_Link(Vec_Slot *self, uint64_t additional);
 SMALL void core_ptr_copy_drop_copy_bits_Link(void *src, void *dst, uint64_t count);
-SMALL void std_alloc_vec_Vec_truncate_Link_7(Vec_Slot *self, uint64_t n);
+SMALL bool std_alloc_room_may_hold_Marks(uint64_t n);
+SMALL Result_ptr std_alloc_vec_resize_Marks(const void *alloc, void *ptr, uint64_t len, uint64_t old_cap, uint64_t new_cap);
+SMALL void atlas_search_Destruct_none_drop(void);
+SMALL void std_alloc_vec_Vec_truncate_within_Link_6(Vec_Slot *self, uint64_t n);
 SMALL void std_alloc_vec_opened_drop_run_Slot_3(Slots_CacheChange_u64 *row, uint64_t from, uint64_t to);
+SMALL void std_alloc_vec_Vec_truncate_within_Link_7(Vec_Slot *self, uint64_t n);
+SMALL void std_alloc_vec_opened_fill_run_Link(Slots_CacheChange_u64 *row, uint64_t from, uint64_t to, atlas_search_Link x);
+SMALL atlas_search_Mask atlas_search_masks_Mask_with(atlas_search_Mask self, uint64_t k);
+SMALL void std_alloc_vec_opened_drop_run_Link_5(Slots_CacheChange_u64 *row, uint64_t from, uint64_t to);
+SMALL void std_alloc_vec_opened_drop_run_Marks_4(Slots_CacheChange_u64 *row, uint64_t from, uint64_t to);
 SMALL void guillotiere_c_Destruct_none_drop_Slot(atlas_store_Slot given_1);
 SMALL void guillotiere_c_Destruct_none_drop_Link(atlas_search_Link given_1);
+SMALL void guillotiere_c_Destruct_none_drop_Marks(const atlas_search_Marks given_1);
 SMALL atlas_search_Links atlas_search_heap_links_at_Slot(slice_Slot entries, atlas_search_Link at);
 PART atlas_search_Link atlas_search_heap_leave_Slot(slice_Slot_2 entries, atlas_search_Link at, atlas_search_Link up);
 SMALL void atlas_search_heap_relink_Slot(slice_Slot_2 entries, atlas_search_Link at, atlas_search_Link up, atlas_search_Link left,
@@ -11581,7 +11654,12 @@ PART atlas_search_Link atlas_search_heap_sort_in_Slot(slice_Slot_2 entries, atla
         atlas_search_Link top, atlas_search_Link at);
 SMALL atlas_store_Slot atlas_store_slots_lists_fresh_slot(void);
 SMALL void atlas_store_slots_lists_renew(slice_Slot_2 slots, atlas_search_Link at);
-SMALL void atlas_search_search_show_list_Slot(slice_Slot entries, atlas_search_Link top, atlas_search_Best *best);
+SMALL atlas_search_Link atlas_search_table_Table_stored_head(const atlas_search_Table *self, atlas_search_Place at);
+SMALL bool atlas_search_search_show_entry_Slot(const atlas_store_Slot *entry, atlas_search_Link at, atlas_search_Best *best);
+SMALL atlas_search_Halves atlas_search_cells_Cell_halves(atlas_search_Cell self);
+SMALL atlas_search_Link atlas_store_slots_entry_SlotEntry_left(const atlas_store_Slot *self);
+PART void atlas_search_search_show_Slot(slice_Slot entries, atlas_search_Link at, atlas_search_Cell cell, atlas_search_Best *best);
+SMALL atlas_search_Link atlas_store_slots_entry_SlotEntry_right(const atlas_store_Slot *self);
 SMALL bool std_alloc_room_may_hold_Allocation(uint64_t n);
 SMALL Result_ptr std_alloc_vec_resize_Allocation(const void *alloc, void *ptr, uint64_t len, uint64_t old_cap, uint64_t new_cap);
 SMALL void std_alloc_vec_opened_drop_run_Allocation_3(Slots_CacheChange_u64 *row, uint64_t from, uint64_t to);
@@ -11602,15 +11680,18 @@ SMALL Result_ptr std_alloc_vec_resize_Change(const void *alloc, void *ptr, uint6
 SMALL void atlas_allocator_Destruct_none_drop_Allocation(atlas_model_Allocation given_1);
 SMALL void core_mem_drop_Slot_2(atlas_store_Slot x);
 SMALL void core_mem_drop_Link_3(atlas_search_Link x);
-SMALL void std_alloc_vec_Vec_truncate_within_Link_5(Vec_Slot *self, uint64_t n);
+SMALL void core_mem_drop_Marks_2(const atlas_search_Marks x);
 SMALL void guillotiere_c_Destruct_none_drop_AllocId(atlas_model_AllocId given_1);
 SMALL guillotiere_FreeBox core_slots_Slots_take_FreeBox(Slots_CacheChange_u64 *self, uint64_t i);
 SMALL void core_mem_drop_FreeBox(guillotiere_FreeBox x);
 SMALL void atlas_search_search_search_list_FreeBox(slice_FreeBox entries, const atlas_search_Table *table, atlas_search_Place place,
         atlas_search_Best *best);
+SMALL void atlas_search_search_show_list_FreeBox(slice_FreeBox entries, atlas_search_Link top, atlas_search_Best *best);
 SMALL atlas_search_Link atlas_search_heap_remove_FreeBox(slice_FreeBox_2 entries, atlas_search_Link at);
 SMALL uint64_t std_alloc_vec_least_capacity_FreeBox(void);
 SMALL void core_mem_drop_FreeBox_2(guillotiere_FreeBox x);
+SMALL const atlas_search_Link *std_alloc_vec_derefs_VecIndexUsize_index_Link(const Vec_Slot *self, uint64_t index);
+COLD atlas_search_Link atlas_search_table_head_in(const array_u16_8 *only, uint64_t number);
 SMALL bool atlas_search_heap_is_alike_FreeBox(slice_FreeBox entries, atlas_search_Link top, atlas_search_Link at);
 SMALL uint64_t atlas_search_heap_corner_at_FreeBox(slice_FreeBox entries, atlas_search_Link at);
 SMALL void guillotiere_simple_boxes_FreeBoxLinked_set_links(guillotiere_FreeBox *self, atlas_search_Link up, atlas_search_Link left,
@@ -11624,22 +11705,22 @@ SMALL atlas_search_Link atlas_search_heap_meld_FreeBox(slice_FreeBox_2 entries, 
         atlas_search_Link up);
 SMALL void atlas_search_heap_make_fork_FreeBox(slice_FreeBox_2 entries, atlas_search_Cell cell, atlas_search_Link top);
 SMALL atlas_search_Pair atlas_search_heap_in_order_FreeBox(slice_FreeBox entries, atlas_search_Link one, atlas_search_Link other);
-SMALL atlas_search_Halves atlas_search_cells_Cell_halves(atlas_search_Cell self);
 SMALL bool atlas_search_cells_Cell_is_below_ends(atlas_search_Cell self, atlas_model_Size size);
 SMALL void atlas_search_heap_move_below_FreeBox(slice_FreeBox_2 entries, atlas_search_Link at, atlas_search_Link up);
-SMALL atlas_search_Mask atlas_search_masks_Mask_with(atlas_search_Mask self, uint64_t k);
-SMALL void std_alloc_vec_Vec_truncate_Link_8(Vec_Slot *self, uint64_t n);
 SMALL void core_mem_drop_Link_4(atlas_search_Link x);
+SMALL void core_mem_drop_Marks_3(const atlas_search_Marks x);
 SMALL void std_alloc_vec_Vec_clear_Slot_6(Vec_Slot *self);
 SMALL void std_alloc_vec_Vec_destroy_empty_Slot_4(Vec_Slot self);
-SMALL void std_alloc_vec_Vec_clear_Link_11(Vec_Slot *self);
+SMALL void std_alloc_vec_Vec_clear_Link_10(Vec_Slot *self);
 SMALL void std_alloc_vec_Vec_destroy_empty_Link_7(Vec_Slot self);
-SMALL bool std_alloc_vec_Vec_grow_amortized_AtlasAllocator(Vec_Slot *self, uint64_t additional);
+SMALL void std_alloc_vec_Vec_clear_Marks_6(Vec_Slot *self);
+SMALL void std_alloc_vec_Vec_destroy_empty_Marks_6(Vec_Slot self);
+COLD bool std_alloc_vec_Vec_grow_amortized_AtlasAllocator(Vec_Slot *self, uint64_t additional);
 SMALL void atlas_pages_atlas_allocator_atlas_AtlasAllocator_Destruct_drop(const atlas_allocator_AtlasAllocator given_1);
 SMALL atlas_pages_PagesError atlas_pages_error_PagesErrorFromAtlasError_from(atlas_model_AtlasError error);
 SMALL std_collections_Later std_collections_later_Later_none(void);
 SMALL Vec_u64_Later std_alloc_vec_Vec_new_u64_Later(std_collections_Later alloc);
-SMALL void guillotiere_c_Destruct_none_drop_Refusals(atlas_cache_Refusals given_1);
+SMALL void guillotiere_c_Destruct_none_drop_Known(atlas_cache_Known given_1);
 SMALL tuple_Slots_CacheChange_u64_Spare_CacheChange_u64 std_alloc_vec_Vec_detach_u64_Later(Vec_u64_Later *self, uint64_t places);
 SMALL void std_alloc_vec_Vec_attach_u64_Later(Vec_u64_Later *self, Slots_CacheChange_u64 row, Spare_CacheChange_u64 spare, uint64_t len);
 SMALL Option_ref_Global std_collections_later_Later_lent(const std_collections_Later *self);
@@ -11674,48 +11755,50 @@ SMALL void core_slice_edits_mirror_CacheChange_u64(slice_CacheChange_u64_2 front
 SMALL void core_slice_edits_slice_T_swap_CacheChange_u64(slice_CacheChange_u64_2 given_1, uint64_t given_2, uint64_t given_3);
 SMALL Result_u32_CacheError atlas_entries_recency_take_number(Vec_Slot *links, uint32_t *unused);
 SMALL Result_AllocFailed_Entry_u64 std_alloc_vec_Vec_push_Entry_u64(Vec_Slot *self, atlas_entries_Entry_u64 value);
-SMALL bool atlas_cache_rooms_is_largest(atlas_model_Size size, atlas_model_Size largest);
-SMALL Option_u32 atlas_entries_entries_Entries_unpassed_u64_BuildHasherDefault_FoldHasher_FoldHasher(const atlas_entries_Entries_u64_BuildHasherDefault_FoldHasher_FoldHasher *self);
-SMALL void atlas_entries_entries_Entries_pass_u64_BuildHasherDefault_FoldHasher_FoldHasher(atlas_entries_Entries_u64_BuildHasherDefault_FoldHasher_FoldHasher *self, uint32_t number);
-SMALL Option_u32 atlas_entries_entries_Entries_newer_u64_BuildHasherDefault_FoldHasher_FoldHasher(const atlas_entries_Entries_u64_BuildHasherDefault_FoldHasher_FoldHasher *self, uint32_t number);
-SMALL Result atlas_cache_rooms_Rooms_show_none_on_all(const atlas_cache_Rooms *self, Vec_Slot *marks);
-SMALL Result_Option_Vacancy core_result_ResultFromResidualErrResidual_from_residual_Option_Vacancy(void);
-SMALL Option_Vacancy atlas_cache_cache_vacating_first_vacancy_u64_BuildHasherDefault_FoldHasher_FoldHasher(const atlas_cache_Rooms *rooms,
-        const atlas_entries_Entries_u64_BuildHasherDefault_FoldHasher_FoldHasher *entries, Vec_Slot *marks, uint64_t frame,
-        atlas_model_Size asked);
-SMALL bool atlas_cache_cache_vacating_lies_in_u64(const atlas_entries_Entry_u64 *entry, uint32_t page, const atlas_model_Rectangle *area);
-SMALL void atlas_cache_cache_vacating_clear_one_u64_BuildHasherDefault_FoldHasher_FoldHasher(atlas_cache_Rooms *rooms,
-        atlas_entries_Entries_u64_BuildHasherDefault_FoldHasher_FoldHasher *entries, atlas_cache_Counts *counts, uint32_t number,
+SMALL Result_Option_tuple_u32_Allocation_CacheError atlas_cache_rooms_Rooms_place_among(atlas_cache_Rooms *self, uint64_t from,
+        uint64_t to, atlas_model_Size asked);
+SMALL Result_Option_Entry_u64_CacheError core_result_ResultFromResidualErrResidual_from_residual_Option_Entry_u64_CacheError_CacheError(ErrResidual_CacheError residual);
+SMALL Option_tuple_u64_Size atlas_cache_rooms_first_to_grow(slice_AtlasAllocator pages, atlas_model_Size largest);
+SMALL bool core_option_Option_is_none_tuple_u64_Size(const Option_tuple_u64_Size *self);
+SMALL Option_tuple_u32_Entry_u64 atlas_cache_cache_holding_oldest_lying_u64_BuildHasherDefault_FoldHasher_FoldHasher(atlas_entries_Entries_u64_BuildHasherDefault_FoldHasher_FoldHasher *entries);
+SMALL Result_Option_Vacancy atlas_cache_cache_vacating_find_vacancy_u64_BuildHasherDefault_FoldHasher_FoldHasher(const atlas_cache_Rooms *rooms, const atlas_entries_Entries_u64_BuildHasherDefault_FoldHasher_FoldHasher *entries, Vec_Slot *marks, uint64_t frame, atlas_model_Size asked);
+SMALL uint64_t atlas_cache_cache_vacating_inside_u64_BuildHasherDefault_FoldHasher_FoldHasher(const atlas_entries_Entries_u64_BuildHasherDefault_FoldHasher_FoldHasher *entries, uint64_t count, uint32_t page, const atlas_model_Rectangle *area);
+SMALL Result_Vacated_CacheError core_result_ResultFromResidualErrResidual_from_residual_Vacated_CacheError(void);
+SMALL void atlas_cache_cache_vacating_clear_u64_BuildHasherDefault_FoldHasher_FoldHasher(atlas_cache_Rooms *rooms,
+        atlas_entries_Entries_u64_BuildHasherDefault_FoldHasher_FoldHasher *entries, atlas_cache_Counts *counts, uint64_t frame,
         const atlas_cache_Vacancy *vacancy, Vec_Slot *changes);
-SMALL uint32_t atlas_cache_rooms_doubled(uint32_t side, uint32_t most);
-SMALL atlas_entries_CacheError atlas_entries_error_CacheErrorFromAllocFailed_from_AtlasAllocator(const AllocFailed_AtlasAllocator _error);
-SMALL void std_alloc_vec_Vec_put_Refusals(Vec_Slot *self, atlas_cache_Refusals x);
+SMALL atlas_model_Size atlas_cache_rooms_grown(atlas_model_Size size, atlas_model_Size largest);
+SMALL Result std_alloc_vec_Vec_reserve_Known(Vec_Slot *self, uint64_t additional);
+SMALL Result_Option_tuple_u32_Size_CacheError core_result_ResultFromResidualErrResidual_from_residual_Option_tuple_u32_Size_CacheError(void);
+SMALL Result_Option_tuple_u32_Size_CacheError core_result_ResultFromResidualErrResidual_from_residual_Option_tuple_u32_Size_AllocFailed_AtlasAllocator_CacheError(const ErrResidual_AllocFailed_AtlasAllocator residual);
+SMALL void std_alloc_vec_Vec_push_reserved_Known(Vec_Slot *self, atlas_cache_Known value);
 SMALL Option_tuple_u64_tuple_u64_u32 std_collections_hash_map_HashMap_take_u64_u32_BuildHasherDefault_FoldHasher_FoldHasher_ref_u64(std_collections_HashMap_u64_u32_BuildHasherDefault_FoldHasher_FoldHasher *self, const uint64_t *key);
 SMALL std_collections_Group std_collections_index_table_group_Group_empty(void);
 SMALL void std_alloc_vec_Vec_truncate_u64_Later_2(Vec_u64_Later *self, uint64_t n);
 SMALL void std_alloc_vec_Vec_truncate_u32_Later_2(Vec_u64_Later *self, uint64_t n);
-SMALL void std_alloc_vec_Vec_truncate_within_Link_6(Vec_Slot *self, uint64_t n);
+SMALL void std_alloc_vec_Vec_truncate_within_Link_8(Vec_Slot *self, uint64_t n);
 SMALL void std_alloc_vec_opened_drop_run_Entry_u64_2(Slots_CacheChange_u64 *row, uint64_t from, uint64_t to);
 SMALL bool atlas_cache_rooms_asking_is_no_smaller(atlas_model_Size asked, atlas_model_Size refused);
-SMALL atlas_cache_Refusals atlas_cache_rooms_asking_with(atlas_cache_Refusals refused, atlas_model_Size asked);
+SMALL atlas_cache_Known atlas_cache_rooms_asking_with(atlas_cache_Known known, atlas_model_Size asked);
 SMALL void atlas_cache_Destruct_none_drop_Allocation(atlas_model_Allocation given_1);
 SMALL tuple_slice_Allocation_ref_Global std_alloc_vec_Vec_parts_mut_Allocation(Vec_Slot *self);
 SMALL Result core_slice_sort_slice_T_sort_by_key_Allocation_ref_Global_Reverse_u64(slice_Allocation_2 given_1, const void *given_2);
 SMALL atlas_entries_CacheError atlas_entries_error_CacheErrorFromAllocFailed_from_Change(AllocFailed_Change _error);
 SMALL void std_alloc_vec_Vec_truncate_within_Allocation_4(Vec_Slot *self, uint64_t n);
 SMALL void std_alloc_vec_Vec_truncate_Slot_5(Vec_Slot *self, uint64_t n);
-SMALL void std_alloc_vec_Vec_truncate_Link_9(Vec_Slot *self, uint64_t n);
+SMALL void std_alloc_vec_Vec_truncate_Link_10(Vec_Slot *self, uint64_t n);
+SMALL void std_alloc_vec_Vec_truncate_Marks_5(Vec_Slot *self, uint64_t n);
 SMALL void core_slice_sort_unstable_sort_Change(slice_Change_2 s, void *order);
 SMALL Result_u64_u64 core_slice_reads_slice_T_binary_search_by_key_Change_u32(slice_Change given_1, const uint32_t *given_2);
 SMALL void std_alloc_vec_Vec_truncate_within_Change_3(Vec_Slot *self, uint64_t n);
 SMALL bool std_alloc_room_may_hold_AtlasAllocator(uint64_t n);
 SMALL Result_ptr std_alloc_vec_resize_AtlasAllocator(const void *alloc, void *ptr, uint64_t len, uint64_t old_cap, uint64_t new_cap);
 SMALL void atlas_cache_atlas_allocator_atlas_AtlasAllocator_Destruct_drop(const atlas_allocator_AtlasAllocator given_1);
-SMALL bool std_alloc_room_may_hold_Refusals(uint64_t n);
-SMALL Result_ptr std_alloc_vec_resize_Refusals(const void *alloc, void *ptr, uint64_t len, uint64_t old_cap, uint64_t new_cap);
-SMALL bool std_alloc_vec_Vec_grow_amortized_Refusals(Vec_Slot *self, uint64_t additional);
-SMALL void core_ptr_copy_drop_copy_bits_Refusals(void *src, void *dst, uint64_t count);
-SMALL void std_alloc_vec_Vec_truncate_Refusals_3(Vec_Slot *self, uint64_t n);
+SMALL bool std_alloc_room_may_hold_Known(uint64_t n);
+SMALL Result_ptr std_alloc_vec_resize_Known(const void *alloc, void *ptr, uint64_t len, uint64_t old_cap, uint64_t new_cap);
+COLD bool std_alloc_vec_Vec_grow_amortized_Known(Vec_Slot *self, uint64_t additional);
+SMALL void core_ptr_copy_drop_copy_bits_Known(void *src, void *dst, uint64_t count);
+SMALL void std_alloc_vec_Vec_truncate_Known_3(Vec_Slot *self, uint64_t n);
 SMALL std_collections_Pairs_u64_u32 std_collections_columns_Columns_pairs_u64_u32(const std_collections_Columns_u64_u32 *self);
 SMALL Option_ref_u64 core_iter_slices_IterIterator_next_u64(Iter_u64 *self);
 SMALL Option_ref_u32 core_iter_slices_IterIterator_next_u32(Iter_u32 *self);
@@ -11724,9 +11807,9 @@ SMALL bool core_result_Result_is_ok(const Result *self);
 SMALL void std_collections_index_table_IndexTable_push(std_collections_IndexTable *self, uint32_t hash);
 SMALL void std_collections_columns_Columns_push_u64_u32(std_collections_Columns_u64_u32 *self, uint64_t key, uint32_t value);
 SMALL void atlas_entries_Destruct_none_drop_tuple_u64_u32(tuple_u64_u32 given_1);
-SMALL bool std_alloc_vec_Vec_move_to_Link_3(Vec_Slot *self, uint64_t cap);
+SMALL bool std_alloc_vec_Vec_move_to_Link_2(Vec_Slot *self, uint64_t cap);
 SMALL void core_slots_Slots_copy_in_Link_2(Slots_CacheChange_u64 *self, uint64_t to, slice_Link_4 src);
-SMALL void std_alloc_vec_Vec_clear_Link_12(Vec_Slot *self);
+SMALL void std_alloc_vec_Vec_clear_Link_11(Vec_Slot *self);
 SMALL void std_alloc_vec_Vec_destroy_empty_u64_Later_2(Vec_u64_Later self);
 SMALL void std_alloc_vec_Vec_destroy_empty_u32_Later_2(Vec_u64_Later self);
 SMALL void std_alloc_vec_Vec_destroy_empty_Group_Later_2(Vec_u64_Later self);
@@ -11736,7 +11819,7 @@ SMALL Result_ptr std_alloc_vec_resize_Entry_u64(const void *alloc, void *ptr, ui
 SMALL void core_ptr_copy_drop_copy_bits_Entry_u64(void *src, void *dst, uint64_t count);
 SMALL void std_alloc_vec_Vec_truncate_Entry_u64_3(Vec_Slot *self, uint64_t n);
 SMALL void std_alloc_vec_opened_drop_run_AtlasAllocator_3(Slots_CacheChange_u64 *row, uint64_t from, uint64_t to);
-SMALL void std_alloc_vec_opened_drop_run_Refusals_2(Slots_CacheChange_u64 *row, uint64_t from, uint64_t to);
+SMALL void std_alloc_vec_opened_drop_run_Known_2(Slots_CacheChange_u64 *row, uint64_t from, uint64_t to);
 SMALL void std_alloc_vec_opened_drop_run_CacheChange_u64_2(Slots_CacheChange_u64 *row, uint64_t from, uint64_t to);
 SMALL uint64_t std_alloc_vec_Vec_capacity_u64_Later(const Vec_u64_Later *self);
 SMALL Result std_collections_index_table_IndexTable_reserve_rehash(std_collections_IndexTable *self, const void *alloc,
@@ -11744,8 +11827,8 @@ SMALL Result std_collections_index_table_IndexTable_reserve_rehash(std_collectio
 SMALL Result std_collections_columns_methods_reserve_column_u64(const void *alloc, Vec_u64_Later *column, uint64_t additional);
 SMALL Result std_collections_columns_methods_reserve_column_u32(const void *alloc, Vec_u64_Later *column, uint64_t additional);
 SMALL uint64_t std_alloc_vec_least_capacity_Entry_u64(void);
-SMALL bool std_alloc_vec_Vec_grow_amortized_Link_2(Vec_Slot *self, uint64_t additional);
-SMALL bool std_alloc_vec_Vec_grow_amortized_Vec_bool(Vec_Slot *self, uint64_t additional);
+COLD bool std_alloc_vec_Vec_grow_amortized_Link_2(Vec_Slot *self, uint64_t additional);
+COLD bool std_alloc_vec_Vec_grow_amortized_Vec_bool(Vec_Slot *self, uint64_t additional);
 SMALL void std_alloc_vec_Vec_drop_bool_3(Vec_Slot given_1);
 SMALL void std_alloc_vec_opened_drop_run_bool(Slots_CacheChange_u64 *row, uint64_t from, uint64_t to);
 SMALL uint64_t std_alloc_vec_least_capacity_bool(void);
@@ -11768,7 +11851,7 @@ SMALL Option_Size atlas_sheet_search_smaller_power(atlas_model_Size size);
 PART Result_Vec_Size_SheetError atlas_sheet_places_find_places(slice_Size sprites, slice_tuple_u64_Size order, atlas_model_Size sheet,
         atlas_sheet_Spacing spacing, atlas_sheet_Choice choice);
 SMALL Result_Arrangement_SheetError core_result_ResultFromResidualErrResidual_from_residual_Arrangement_SheetError(void);
-PART Result_Vec_AllocId std_alloc_vec_Vec_from_slice_tuple_u64_Size(slice_tuple_u64_Size items);
+SMALL Result_Vec_AllocId std_alloc_vec_Vec_from_slice_tuple_u64_Size(slice_tuple_u64_Size items);
 SMALL bool std_alloc_vec_Vec_grow_Placed(Vec_Slot *self, uint64_t additional);
 SMALL void std_alloc_vec_Vec_put_Placed(Vec_Slot *self, atlas_sheet_Placed x);
 SMALL atlas_sheet_SheetError atlas_sheet_error_SheetErrorFromAllocFailed_from_Placed(AllocFailed_Placed _error);
@@ -11798,9 +11881,9 @@ SMALL void atlas_sheet_paging_fn_next_page_packed(void *given_1, atlas_model_Siz
 SMALL bool core_slice_slice_T_is_empty_Option_Placed(slice_Option_Placed given_1);
 SMALL bool atlas_sheet_paging_fn_is_bare_all(void *given_1, const Option_Placed *given_2);
 SMALL void std_alloc_vec_Vec_truncate_within_Option_Placed_2(Vec_Slot *self, uint64_t n);
-SMALL bool std_alloc_vec_Vec_grow_amortized_Option_OnPage(Vec_Slot *self, uint64_t additional);
+COLD bool std_alloc_vec_Vec_grow_amortized_Option_OnPage(Vec_Slot *self, uint64_t additional);
 SMALL uint64_t std_alloc_vec_least_capacity_Size(void);
-SMALL bool std_alloc_vec_Vec_grow_amortized_OnPage(Vec_Slot *self, uint64_t additional);
+COLD bool std_alloc_vec_Vec_grow_amortized_OnPage(Vec_Slot *self, uint64_t additional);
 SMALL void atlas_sheet_Destruct_none_drop_OnPage(atlas_sheet_OnPage given_1);
 SMALL void std_alloc_vec_Vec_truncate_OnPage_2(Vec_Slot *self, uint64_t n);
 SMALL void guillotiere_c_Destruct_none_drop_OnPage(atlas_sheet_OnPage given_1);
@@ -11814,7 +11897,7 @@ SMALL Option_u64 std_alloc_vec_copies_AnyIntoElement_into_element_Option_u64(Opt
 SMALL void std_alloc_vec_Vec_put_Option_u64(Vec_Slot *self, Option_u64 x);
 SMALL bool std_alloc_room_may_hold_Option_u64(uint64_t n);
 SMALL Result_ptr std_alloc_vec_resize_Option_u64(const void *alloc, void *ptr, uint64_t len, uint64_t old_cap, uint64_t new_cap);
-SMALL bool std_alloc_vec_Vec_grow_amortized_Option_u64(Vec_Slot *self, uint64_t additional);
+COLD bool std_alloc_vec_Vec_grow_amortized_Option_u64(Vec_Slot *self, uint64_t additional);
 SMALL void core_ptr_copy_drop_copy_bits_Option_u64(void *src, void *dst, uint64_t count);
 SMALL void std_alloc_vec_opened_drop_run_Option_u64_2(Slots_CacheChange_u64 *row, uint64_t from, uint64_t to);
 SMALL void core_slots_Slots_put_Option_u64(Slots_CacheChange_u64 *given_1, uint64_t given_2, Option_u64 given_3);
@@ -11831,7 +11914,7 @@ SMALL void std_alloc_vec_Vec_free_block_bool(Vec_Slot self);
 SMALL Result_Vec_Size_SheetError atlas_sheet_picking_row_of(uint64_t group, slice_Option_u64 groups);
 SMALL Result_Option_Chosen_SheetError core_result_ResultFromResidualErrResidual_from_residual_Option_Chosen_SheetError_SheetError(ErrResidual_SheetError residual);
 SMALL slice_bool_2 std_alloc_vec_derefs_VecDerefSlice_deref_bool(const Vec_Slot *self);
-PART Result_Vec_Size_SheetError atlas_sheet_picking_picked(slice_bool_2 row, slice_Size sprites);
+SMALL Result_Vec_Size_SheetError atlas_sheet_picking_picked(slice_bool_2 row, slice_Size sprites);
 SMALL Result_Option_Arrangement_SheetError atlas_sheet_choosing_plainly_packed(slice_Size sprites, const atlas_sheet_SheetOptions *options);
 SMALL Iter_Option_u64 core_iter_slices_slice_T_iter_Option_u64(slice_Option_u64 given_1);
 SMALL Map_Iter_Option_u64_map_Self_ref_u64 core_iter_base_Iterator_map_Iter_Option_u64_ref_Option_u64_Option_u64_map_Self_ref_u64(Iter_Option_u64 given_1, atlas_sheet_map_Self_ref_u64 given_2);
@@ -11873,7 +11956,7 @@ SMALL bool std_alloc_vec_Vec_grow_by_hint_u64(Vec_Slot *self, uint64_t hint);
 SMALL void atlas_sheet_Destruct_none_drop_u64(uint64_t given_1);
 SMALL uint64_t std_alloc_vec_copies_AnyIntoElement_into_element_u64(uint64_t given_1);
 SMALL void std_alloc_vec_Vec_put_u64(Vec_Slot *self, uint64_t x);
-SMALL bool std_alloc_vec_Vec_grow_amortized_Option_Placed(Vec_Slot *self, uint64_t additional);
+COLD bool std_alloc_vec_Vec_grow_amortized_Option_Placed(Vec_Slot *self, uint64_t additional);
 SMALL void atlas_sheet_Destruct_none_drop_Option_Placed(Option_Placed given_1);
 SMALL void std_alloc_vec_opened_drop_run_Size_2(Slots_CacheChange_u64 *row, uint64_t from, uint64_t to);
 SMALL void std_alloc_vec_opened_drop_run_tuple_u64_Size(Slots_CacheChange_u64 *row, uint64_t from, uint64_t to);
@@ -11882,11 +11965,14 @@ SMALL void guillotiere_c_Destruct_none_drop_Option_Placed(Option_Placed given_1)
 SMALL void std_alloc_vec_opened_drop_run_Slot_4(Slots_CacheChange_u64 *row, uint64_t from, uint64_t to);
 SMALL Result_ptr std_heap_GlobalAllocator_grow_Link(const void *self, void *ptr, uint64_t len, uint64_t _old_cap, uint64_t new_cap);
 SMALL uint64_t std_alloc_vec_least_capacity_Link(void);
-SMALL void std_alloc_vec_Vec_truncate_within_Link_7(Vec_Slot *self, uint64_t n);
+SMALL Result_ptr std_heap_GlobalAllocator_grow_Marks(const void *self, void *ptr, uint64_t len, uint64_t _old_cap, uint64_t new_cap);
+SMALL void std_alloc_vec_opened_drop_run_Link_6(Slots_CacheChange_u64 *row, uint64_t from, uint64_t to);
 SMALL void core_mem_drop_Slot_3(atlas_store_Slot x);
+SMALL void std_alloc_vec_opened_drop_run_Link_7(Slots_CacheChange_u64 *row, uint64_t from, uint64_t to);
+SMALL void core_slots_Slots_put_Link(Slots_CacheChange_u64 *given_1, uint64_t given_2, atlas_search_Link given_3);
+SMALL void core_mem_drop_Link_5(atlas_search_Link x);
+SMALL void core_mem_drop_Marks_4(const atlas_search_Marks x);
 SMALL atlas_search_Link atlas_store_slots_entry_SlotEntry_up(const atlas_store_Slot *self);
-SMALL atlas_search_Link atlas_store_slots_entry_SlotEntry_left(const atlas_store_Slot *self);
-SMALL atlas_search_Link atlas_store_slots_entry_SlotEntry_right(const atlas_store_Slot *self);
 SMALL bool atlas_search_heap_is_fork_Slot(slice_Slot entries, atlas_search_Link at);
 SMALL atlas_search_Link atlas_search_heap_close_Slot(slice_Slot_2 entries, atlas_search_Link at, atlas_search_Link up);
 SMALL bool atlas_search_heap_is_left_first_Slot(slice_Slot entries, atlas_search_Link left, atlas_search_Link right);
@@ -11894,7 +11980,7 @@ SMALL void atlas_search_heap_set_up_Slot(slice_Slot_2 entries, atlas_search_Link
 SMALL void atlas_search_heap_move_below_Slot(slice_Slot_2 entries, atlas_search_Link at, atlas_search_Link up);
 SMALL void atlas_store_slots_entry_SlotLinked_set_links(atlas_store_Slot *self, atlas_search_Link up, atlas_search_Link left,
         atlas_search_Link right);
-SMALL void atlas_search_marks_Marks_unmark(atlas_search_Marks *self, atlas_search_Place at);
+SMALL void atlas_search_table_set_first_in(Vec_Slot *heads, Vec_Slot *marks, uint64_t *emptied, uint64_t number, atlas_search_Link first);
 SMALL tuple_Rectangle_Rectangle atlas_store_slots_placing_cut_area(atlas_model_Rectangle area, atlas_search_Orientation axis,
         uint32_t extent);
 SMALL bool atlas_search_heap_is_alike_Slot(slice_Slot entries, atlas_search_Link top, atlas_search_Link at);
@@ -11904,8 +11990,13 @@ SMALL atlas_search_Link atlas_search_heap_meld_Slot(slice_Slot_2 entries, atlas_
         atlas_search_Link up);
 SMALL void atlas_search_heap_make_fork_Slot(slice_Slot_2 entries, atlas_search_Cell cell, atlas_search_Link top);
 SMALL atlas_search_Pair atlas_search_heap_in_order_Slot(slice_Slot entries, atlas_search_Link one, atlas_search_Link other);
-SMALL bool atlas_search_search_show_entry_Slot(const atlas_store_Slot *entry, atlas_search_Link at, atlas_search_Best *best);
-PART void atlas_search_search_show_Slot(slice_Slot entries, atlas_search_Link at, atlas_search_Cell cell, atlas_search_Best *best);
+SMALL uint64_t atlas_search_best_corner(atlas_model_Rectangle rectangle);
+SMALL bool atlas_search_best_Best_passes(const atlas_search_Best *self, uint64_t corner);
+SMALL void atlas_search_best_Best_look(atlas_search_Best *self, atlas_model_Rectangle rectangle, uint64_t corner, atlas_search_Link at);
+SMALL bool atlas_store_slots_entry_SlotEntry_is_fork(const atlas_store_Slot *self);
+SMALL bool atlas_search_cells_Cell_is_cut_wide(atlas_search_Cell self);
+SMALL uint32_t atlas_search_cells_middle(uint32_t first, uint32_t end);
+SMALL bool atlas_search_best_Best_may_be_in(const atlas_search_Best *self, atlas_search_Cell cell);
 SMALL Result_ptr std_heap_GlobalAllocator_grow_Allocation(const void *self, void *ptr, uint64_t len, uint64_t _old_cap, uint64_t new_cap);
 SMALL void core_mem_drop_Allocation_3(atlas_model_Allocation x);
 SMALL Result_ptr std_heap_GlobalAllocator_grow_Rectangle(const void *self, void *ptr, uint64_t len, uint64_t _old_cap, uint64_t new_cap);
@@ -11922,24 +12013,23 @@ SMALL void core_mem_drop_Change_2(atlas_model_Change x);
 SMALL Result_ptr std_heap_GlobalAllocator_grow_Change(const void *self, void *ptr, uint64_t len, uint64_t _old_cap, uint64_t new_cap);
 SMALL void atlas_allocator_Destruct_none_drop_Slot(atlas_store_Slot given_1);
 SMALL void atlas_allocator_Destruct_none_drop_Link(atlas_search_Link given_1);
-SMALL void std_alloc_vec_opened_drop_run_Link_5(Slots_CacheChange_u64 *row, uint64_t from, uint64_t to);
+SMALL void atlas_allocator_Destruct_none_drop_Marks(const atlas_search_Marks given_1);
 SMALL void guillotiere_c_Destruct_none_drop_FreeBox(guillotiere_FreeBox given_1);
-SMALL void atlas_search_search_show_list_FreeBox(slice_FreeBox entries, atlas_search_Link top, atlas_search_Best *best);
+SMALL bool atlas_search_search_show_entry_FreeBox(const guillotiere_FreeBox *entry, atlas_search_Link at, atlas_search_Best *best);
+PART void atlas_search_search_show_FreeBox(slice_FreeBox entries, atlas_search_Link at, atlas_search_Cell cell, atlas_search_Best *best);
 PART atlas_search_Link atlas_search_heap_leave_FreeBox(slice_FreeBox_2 entries, atlas_search_Link at, atlas_search_Link up);
 SMALL void guillotiere_Destruct_none_drop_FreeBox(guillotiere_FreeBox given_1);
 SMALL bool atlas_search_heap_is_fork_FreeBox(slice_FreeBox entries, atlas_search_Link at);
-SMALL uint64_t atlas_search_best_corner(atlas_model_Rectangle rectangle);
 SMALL atlas_search_Step atlas_search_cells_step_from(uint32_t side, uint32_t many);
 SMALL void atlas_search_heap_set_up_FreeBox(slice_FreeBox_2 entries, atlas_search_Link at, atlas_search_Link up);
 SMALL void atlas_search_heap_hang_FreeBox(slice_FreeBox_2 entries, atlas_search_Link top, atlas_search_Link part);
 SMALL atlas_search_Link atlas_search_heap_close_FreeBox(slice_FreeBox_2 entries, atlas_search_Link at, atlas_search_Link up);
-SMALL bool atlas_search_cells_Cell_is_cut_wide(atlas_search_Cell self);
-SMALL uint32_t atlas_search_cells_middle(uint32_t first, uint32_t end);
-SMALL void std_alloc_vec_Vec_truncate_within_Link_8(Vec_Slot *self, uint64_t n);
 SMALL void guillotiere_Destruct_none_drop_Link(atlas_search_Link given_1);
+SMALL void guillotiere_Destruct_none_drop_Marks(const atlas_search_Marks given_1);
 SMALL void std_alloc_vec_Vec_truncate_Slot_6(Vec_Slot *self, uint64_t n);
 SMALL void atlas_pages_Destruct_none_drop(void);
 SMALL void std_alloc_vec_Vec_truncate_Link_11(Vec_Slot *self, uint64_t n);
+SMALL void std_alloc_vec_Vec_truncate_Marks_6(Vec_Slot *self, uint64_t n);
 SMALL uint64_t std_alloc_vec_least_capacity_AtlasAllocator(void);
 SMALL void atlas_pages_atlas_store_store_Store_Destruct_drop(const atlas_store_Store given_1);
 SMALL uint32_t core_slots_Slots_take_u32(Slots_CacheChange_u64 *self, uint64_t i);
@@ -11977,23 +12067,35 @@ SMALL Result_AllocFailed_Link std_alloc_vec_Vec_push_Link(Vec_Slot *self, atlas_
 SMALL ControlFlow_ErrResidual_AllocFailed_Link core_result_ResultTry_branch_AllocFailed_Link(Result_AllocFailed_Link self);
 SMALL Result_u32_CacheError core_result_ResultFromResidualErrResidual_from_residual_u32_AllocFailed_Link_CacheError(ErrResidual_AllocFailed_Link residual);
 SMALL void std_alloc_vec_Vec_put_Entry_u64(Vec_Slot *self, atlas_entries_Entry_u64 x);
-SMALL Option_u32 atlas_entries_recency_Recency_newer(const atlas_entries_Recency *self, uint32_t number);
-SMALL Result atlas_cache_rooms_Rooms_show_none(const atlas_cache_Rooms *self, uint32_t page, Vec_Slot *marks);
-SMALL Option_Rectangle atlas_cache_cache_vacating_show_u64(const atlas_cache_Rooms *rooms, Vec_Slot *marks, atlas_model_Size asked,
-        atlas_entries_Entry_u64 entry);
-SMALL bool atlas_cache_cache_vacating_is_no_greater(uint32_t a, uint32_t b);
+SMALL bool atlas_cache_rooms_is_largest(atlas_model_Size size, atlas_model_Size largest);
+SMALL Option_u32 atlas_entries_entries_Entries_unpassed_u64_BuildHasherDefault_FoldHasher_FoldHasher(const atlas_entries_Entries_u64_BuildHasherDefault_FoldHasher_FoldHasher *self);
+SMALL void atlas_entries_entries_Entries_pass_u64_BuildHasherDefault_FoldHasher_FoldHasher(atlas_entries_Entries_u64_BuildHasherDefault_FoldHasher_FoldHasher *self, uint32_t number);
+SMALL Option_u32 atlas_entries_entries_Entries_newer_u64_BuildHasherDefault_FoldHasher_FoldHasher(const atlas_entries_Entries_u64_BuildHasherDefault_FoldHasher_FoldHasher *self, uint32_t number);
+SMALL Result atlas_cache_rooms_Rooms_show_none_on_all(const atlas_cache_Rooms *self, Vec_Slot *marks);
+SMALL Result_Option_Vacancy core_result_ResultFromResidualErrResidual_from_residual_Option_Vacancy(void);
+SMALL Option_Vacancy atlas_cache_cache_vacating_first_vacancy_u64_BuildHasherDefault_FoldHasher_FoldHasher(const atlas_cache_Rooms *rooms,
+        const atlas_entries_Entries_u64_BuildHasherDefault_FoldHasher_FoldHasher *entries, Vec_Slot *marks, uint64_t frame,
+        atlas_model_Size asked);
+SMALL bool atlas_cache_cache_vacating_lies_in_u64(const atlas_entries_Entry_u64 *entry, uint32_t page, const atlas_model_Rectangle *area);
+SMALL void atlas_cache_cache_vacating_clear_one_u64_BuildHasherDefault_FoldHasher_FoldHasher(atlas_cache_Rooms *rooms,
+        atlas_entries_Entries_u64_BuildHasherDefault_FoldHasher_FoldHasher *entries, atlas_cache_Counts *counts, uint32_t number,
+        const atlas_cache_Vacancy *vacancy, Vec_Slot *changes);
+SMALL uint32_t atlas_cache_rooms_doubled(uint32_t side, uint32_t most);
+SMALL atlas_entries_CacheError atlas_entries_error_CacheErrorFromAllocFailed_from_AtlasAllocator(const AllocFailed_AtlasAllocator _error);
+SMALL void std_alloc_vec_Vec_put_Known(Vec_Slot *self, atlas_cache_Known x);
 SMALL Option_u64 std_collections_index_table_IndexTable_swap_remove_by_eq_Self_ref_ref_u64_slice_u64(std_collections_IndexTable *given_1,
         uint32_t given_2, eq_Self_ref_ref_u64_slice_u64_2 given_3);
 SMALL tuple_u64_u32 std_collections_columns_Columns_swap_remove_u64_u32(std_collections_Columns_u64_u32 *self, uint64_t i);
 SMALL void std_alloc_vec_Vec_truncate_within_u64_Later_2(Vec_u64_Later *self, uint64_t n);
 SMALL void std_alloc_vec_Vec_truncate_within_u32_Later_2(Vec_u64_Later *self, uint64_t n);
-SMALL void std_alloc_vec_opened_drop_run_Link_6(Slots_CacheChange_u64 *row, uint64_t from, uint64_t to);
+SMALL void std_alloc_vec_opened_drop_run_Link_8(Slots_CacheChange_u64 *row, uint64_t from, uint64_t to);
 SMALL void core_mem_drop_Entry_u64_2(atlas_entries_Entry_u64 x);
 SMALL Result core_slice_sort_sort_stably_Allocation_ref_Global(slice_Allocation_2 s, const void *alloc);
 SMALL void atlas_cache_Destruct_none_drop_Change(atlas_model_Change given_1);
 SMALL void std_alloc_vec_opened_drop_run_Allocation_4(Slots_CacheChange_u64 *row, uint64_t from, uint64_t to);
 SMALL void std_alloc_vec_Vec_truncate_within_Slot_5(Vec_Slot *self, uint64_t n);
-SMALL void std_alloc_vec_Vec_truncate_within_Link_9(Vec_Slot *self, uint64_t n);
+SMALL void std_alloc_vec_Vec_truncate_within_Link_10(Vec_Slot *self, uint64_t n);
+SMALL void std_alloc_vec_Vec_truncate_within_Marks_5(Vec_Slot *self, uint64_t n);
 SMALL void core_slice_sort_small_insertion_sort_Change(slice_Change_2 s, void *order);
 SMALL tuple_u64_bool core_slice_sort_pivot_run_from_Change(slice_Change s, uint64_t low, void *order);
 PART void core_slice_sort_unstable_quicksort_Change(slice_Change_2 s, uint64_t from, uint64_t high, uint32_t depth, void *order);
@@ -12007,9 +12109,9 @@ SMALL void std_alloc_vec_opened_drop_run_Change_3(Slots_CacheChange_u64 *row, ui
 SMALL Result_ptr std_heap_GlobalAllocator_grow_AtlasAllocator(const void *self, void *ptr, uint64_t len, uint64_t _old_cap,
         uint64_t new_cap);
 SMALL void atlas_cache_atlas_store_store_Store_Destruct_drop(const atlas_store_Store given_1);
-SMALL Result_ptr std_heap_GlobalAllocator_grow_Refusals(const void *self, void *ptr, uint64_t len, uint64_t _old_cap, uint64_t new_cap);
-SMALL uint64_t std_alloc_vec_least_capacity_Refusals(void);
-SMALL void std_alloc_vec_Vec_truncate_within_Refusals_3(Vec_Slot *self, uint64_t n);
+SMALL Result_ptr std_heap_GlobalAllocator_grow_Known(const void *self, void *ptr, uint64_t len, uint64_t _old_cap, uint64_t new_cap);
+SMALL uint64_t std_alloc_vec_least_capacity_Known(void);
+SMALL void std_alloc_vec_Vec_truncate_within_Known_3(Vec_Slot *self, uint64_t n);
 SMALL std_collections_Pairs_u64_u32 std_collections_pairs_Pairs_new_u64_u32(slice_u64 keys, slice_u32 vals);
 SMALL bool core_slice_slice_T_is_empty_u64(slice_u64 given_1);
 SMALL bool core_slice_slice_T_is_empty_u32(slice_u32 given_1);
@@ -12020,14 +12122,14 @@ SMALL void std_alloc_vec_Vec_push_reserved_Bucket_Later(Vec_u64_Later *self, std
 SMALL void std_alloc_vec_Vec_push_reserved_u64_Later(Vec_u64_Later *self, uint64_t value);
 SMALL void std_alloc_vec_Vec_push_reserved_u32_Later(Vec_u64_Later *self, uint32_t value);
 SMALL bool std_alloc_room_may_hold_Link_2(uint64_t n);
-SMALL Result_ptr std_alloc_vec_resize_Link_3(const void *alloc, void *ptr, uint64_t len, uint64_t old_cap, uint64_t new_cap);
+SMALL Result_ptr std_alloc_vec_resize_Link_2(const void *alloc, void *ptr, uint64_t len, uint64_t old_cap, uint64_t new_cap);
 SMALL void core_ptr_copy_drop_copy_bits_Link_2(void *src, void *dst, uint64_t count);
 SMALL void std_alloc_vec_Vec_truncate_Link_12(Vec_Slot *self, uint64_t n);
 SMALL void std_collections_std_collections_later_Later_Destruct_drop_2(std_collections_Later given_1);
 SMALL Result_ptr std_heap_GlobalAllocator_grow_Entry_u64(const void *self, void *ptr, uint64_t len, uint64_t _old_cap, uint64_t new_cap);
 SMALL void std_alloc_vec_Vec_truncate_within_Entry_u64_3(Vec_Slot *self, uint64_t n);
 SMALL void core_mem_drop_AtlasAllocator_3(const atlas_allocator_AtlasAllocator x);
-SMALL void core_mem_drop_Refusals_2(atlas_cache_Refusals x);
+SMALL void core_mem_drop_Known_2(atlas_cache_Known x);
 SMALL void core_mem_drop_CacheChange_u64_2(const atlas_cache_CacheChange_u64 x);
 SMALL slice_Bucket_2 std_alloc_vec_Vec_as_mut_slice_Bucket_Later(Vec_u64_Later *self);
 SMALL uint64_t std_collections_index_table_probe_rehash_in_place(slice_Group groups, slice_Bucket_2 buckets);
@@ -12072,10 +12174,11 @@ SMALL slice_Option_Rectangle_2 std_alloc_vec_lends_VecDerefSliceMut_deref_mut_Op
 SMALL Result_SheetError atlas_sheet_places_find_in(guillotiere_SimpleAtlasAllocator *packer, slice_tuple_u64_Size order,
         atlas_sheet_Spacing spacing, slice_Option_Rectangle_2 places);
 SMALL void std_alloc_vec_Vec_drop_FreeBox_3(Vec_Slot given_1);
-SMALL void std_alloc_vec_Vec_drop_Link_13(Vec_Slot given_1);
+SMALL void std_alloc_vec_Vec_drop_Link_12(Vec_Slot given_1);
+SMALL void std_alloc_vec_Vec_drop_Marks_7(Vec_Slot given_1);
 SMALL Result std_alloc_vec_Vec_extend_from_slice_tuple_u64_Size(Vec_Slot *self, slice_tuple_u64_Size other);
 SMALL void std_alloc_vec_Vec_drop_tuple_u64_Size_2(Vec_Slot given_1);
-SMALL bool std_alloc_vec_Vec_grow_amortized_Placed(Vec_Slot *self, uint64_t additional);
+COLD bool std_alloc_vec_Vec_grow_amortized_Placed(Vec_Slot *self, uint64_t additional);
 SMALL void atlas_sheet_Destruct_none_drop_Placed(atlas_sheet_Placed given_1);
 SMALL bool std_alloc_room_may_hold_tuple_u64_Size(uint64_t n);
 SMALL Result_ptr std_alloc_vec_resize_tuple_u64_Size(const void *alloc, void *ptr, uint64_t len, uint64_t old_cap, uint64_t new_cap);
@@ -12186,14 +12289,16 @@ SMALL void core_mem_drop_tuple_u64_Size(tuple_u64_Size x);
 SMALL Option_Rectangle core_slots_Slots_take_Option_Rectangle(Slots_CacheChange_u64 *self, uint64_t i);
 SMALL void core_mem_drop_Option_Rectangle(Option_Rectangle x);
 SMALL void core_mem_drop_Slot_4(atlas_store_Slot x);
-SMALL void std_alloc_vec_opened_drop_run_Link_7(Slots_CacheChange_u64 *row, uint64_t from, uint64_t to);
+SMALL void core_mem_drop_Link_6(atlas_search_Link x);
 SMALL void atlas_store_Destruct_none_drop_Slot(atlas_store_Slot given_1);
-SMALL bool atlas_store_slots_entry_SlotEntry_is_fork(const atlas_store_Slot *self);
-SMALL atlas_search_Mask atlas_search_masks_Mask_without(atlas_search_Mask self, uint64_t k);
+SMALL void core_mem_drop_Link_7(atlas_search_Link x);
+SMALL void atlas_store_Destruct_none_drop_Link(atlas_search_Link given_1);
+SMALL void atlas_store_Destruct_none_drop_Marks(const atlas_search_Marks given_1);
+SMALL void atlas_search_marks_Marks_unmark(atlas_search_Marks *self, atlas_search_Place at);
 SMALL void atlas_search_heap_hang_Slot(slice_Slot_2 entries, atlas_search_Link top, atlas_search_Link part);
-SMALL bool atlas_search_best_Best_passes(const atlas_search_Best *self, uint64_t corner);
-SMALL void atlas_search_best_Best_look(atlas_search_Best *self, atlas_model_Rectangle rectangle, uint64_t corner, atlas_search_Link at);
-SMALL bool atlas_search_best_Best_may_be_in(const atlas_search_Best *self, atlas_search_Cell cell);
+SMALL Option_u32 atlas_search_best_Best_rank_ahead(const atlas_search_Best *self, atlas_model_Rectangle rectangle, uint64_t corner);
+SMALL uint32_t atlas_search_best_reach_of(bool is_large, uint32_t rank);
+SMALL bool atlas_search_cells_Cell_is_beyond(atlas_search_Cell self, atlas_model_Size size, uint32_t more);
 SMALL void core_slots_lends_with_slots_Allocation_u64(slice_Allocation_2 given_1, void *given_2, uint64_t given_3);
 SMALL bool core_slice_sort_order_ByKeyOrder_less_Allocation_Reverse_tuple_u64_u32(void *given_1, const atlas_model_Allocation *given_2,
         const atlas_model_Allocation *given_3);
@@ -12209,16 +12314,13 @@ SMALL bool core_slice_sort_fits_in_Allocation(uint64_t bytes);
 SMALL void core_slice_sort_small_network_sort_Allocation(slice_Allocation_2 s, void *order);
 SMALL tuple_slice_Allocation_slice_Allocation core_slice_slice_T_split_at_mut_Allocation(slice_Allocation_2 given_1, uint64_t given_2);
 SMALL void core_slice_edits_mirror_Allocation(slice_Allocation_2 front, uint64_t low, slice_Allocation_2 back, uint64_t n);
-SMALL void core_mem_drop_Link_5(atlas_search_Link x);
-SMALL bool atlas_search_search_show_entry_FreeBox(const guillotiere_FreeBox *entry, atlas_search_Link at, atlas_search_Best *best);
-PART void atlas_search_search_show_FreeBox(slice_FreeBox entries, atlas_search_Link at, atlas_search_Cell cell, atlas_search_Best *best);
-SMALL bool atlas_search_heap_is_left_first_FreeBox(slice_FreeBox entries, atlas_search_Link left, atlas_search_Link right);
 SMALL bool guillotiere_simple_boxes_FreeBoxEntry_is_fork(const guillotiere_FreeBox *self);
+SMALL bool atlas_search_heap_is_left_first_FreeBox(slice_FreeBox entries, atlas_search_Link left, atlas_search_Link right);
 SMALL void atlas_search_heap_hang_left_FreeBox(slice_FreeBox_2 entries, atlas_search_Link above, atlas_search_Link less);
 SMALL void atlas_search_heap_swap_below_FreeBox(slice_FreeBox_2 entries, atlas_search_Link above);
-SMALL void std_alloc_vec_opened_drop_run_Link_8(Slots_CacheChange_u64 *row, uint64_t from, uint64_t to);
 SMALL void std_alloc_vec_Vec_truncate_within_Slot_6(Vec_Slot *self, uint64_t n);
 SMALL void std_alloc_vec_Vec_truncate_within_Link_11(Vec_Slot *self, uint64_t n);
+SMALL void std_alloc_vec_Vec_truncate_within_Marks_6(Vec_Slot *self, uint64_t n);
 SMALL void atlas_pages_atlas_search_table_Table_Destruct_drop(const atlas_search_Table given_1);
 SMALL void guillotiere_c_Destruct_none_drop_u32(uint32_t given_1);
 SMALL void std_collections_Destruct_none_drop_Group(std_collections_Group given_1);
@@ -12240,12 +12342,13 @@ SMALL void core_slots_Slots_move_within_CacheChange_u64(Slots_CacheChange_u64 *s
 SMALL void core_slots_Slots_put_CacheChange_u64(Slots_CacheChange_u64 *given_1, uint64_t given_2,
         const atlas_cache_CacheChange_u64 given_3);
 SMALL Slots_CacheChange_u64 core_slots_rooms_with_room_CacheChange_u64_tuple_Slots_CacheChange_u64_u64_Slots_CacheChange_u64(uint64_t given_1, tuple_Slots_CacheChange_u64_u64 given_2);
-SMALL void std_alloc_vec_Vec_put_Link_3(Vec_Slot *self, atlas_entries_Link x);
+SMALL void std_alloc_vec_Vec_put_Link(Vec_Slot *self, atlas_entries_Link x);
 SMALL atlas_entries_CacheError atlas_entries_error_CacheErrorFromAllocFailed_from_Link(AllocFailed_Link _error);
-SMALL Result std_alloc_vec_Vec_resize_bool(Vec_Slot *self, uint64_t n, bool value);
-SMALL void atlas_allocator_atlas_AtlasAllocator_prove_none_shown(const atlas_allocator_AtlasAllocator *self, slice_bool_2 marks);
-SMALL Option_Rectangle atlas_cache_rooms_Rooms_rehearse(const atlas_cache_Rooms *self, uint32_t page, slice_bool marks,
-        atlas_model_AllocId id, atlas_model_Size asked);
+SMALL Option_u32 atlas_entries_recency_Recency_newer(const atlas_entries_Recency *self, uint32_t number);
+SMALL Result atlas_cache_rooms_Rooms_show_none(const atlas_cache_Rooms *self, uint32_t page, Vec_Slot *marks);
+SMALL Option_Rectangle atlas_cache_cache_vacating_show_u64(const atlas_cache_Rooms *rooms, Vec_Slot *marks, atlas_model_Size asked,
+        atlas_entries_Entry_u64 entry);
+SMALL bool atlas_cache_cache_vacating_is_no_greater(uint32_t a, uint32_t b);
 SMALL Option_Found_2 std_collections_index_table_probe_find_slot_eq_Self_ref_ref_u64_slice_u64_2(slice_Group_2 given_1,
         slice_Bucket given_2, uint32_t given_3, eq_Self_ref_ref_u64_slice_u64_2 given_4);
 SMALL bool std_collections_index_table_probe_erase_slot_Later(slice_Group groups, Vec_u64_Later *buckets, std_collections_Found slot);
@@ -12253,7 +12356,7 @@ SMALL uint64_t std_alloc_vec_Vec_swap_remove_u64_Later(Vec_u64_Later *self, uint
 SMALL uint32_t std_alloc_vec_Vec_swap_remove_u32_Later(Vec_u64_Later *self, uint64_t index);
 SMALL void std_alloc_vec_opened_drop_run_u64_3(Slots_CacheChange_u64 *row, uint64_t from, uint64_t to);
 SMALL void std_alloc_vec_opened_drop_run_u32_2(Slots_CacheChange_u64 *row, uint64_t from, uint64_t to);
-SMALL void core_mem_drop_Link_6(atlas_entries_Link x);
+SMALL void core_mem_drop_Link_8(atlas_entries_Link x);
 SMALL void atlas_entries_Destruct_none_drop_Entry_u64(atlas_entries_Entry_u64 given_1);
 SMALL void core_slice_sort_small_insertion_sort_Allocation_2(slice_Allocation_2 s, void *order);
 SMALL void core_core_slice_sort_order_ByKey_Destruct_drop_Reverse_u64_2(void);
@@ -12267,6 +12370,7 @@ SMALL void core_slots_blocks_release_Allocation_ref_Global(const void **alloc, S
 SMALL void core_mem_drop_Allocation_4(atlas_model_Allocation x);
 SMALL void std_alloc_vec_opened_drop_run_Slot_5(Slots_CacheChange_u64 *row, uint64_t from, uint64_t to);
 SMALL void std_alloc_vec_opened_drop_run_Link_9(Slots_CacheChange_u64 *row, uint64_t from, uint64_t to);
+SMALL void std_alloc_vec_opened_drop_run_Marks_5(Slots_CacheChange_u64 *row, uint64_t from, uint64_t to);
 SMALL void core_slice_sort_small_insert_from_Change(slice_Change_2 s, uint64_t from, void *order);
 SMALL bool core_slice_sort_order_less_at_Change(slice_Change s, uint64_t i, uint64_t j, void *order);
 SMALL void core_slice_sort_heap_heap_sort_Change(slice_Change_2 s, void *order);
@@ -12278,7 +12382,7 @@ SMALL void core_slice_edits_reverse_between_Change(slice_Change_2 s, uint64_t lo
 SMALL uint32_t atlas_cache_cache_repacking_fn_change_for_binary_search_by_key(void *given_1, const atlas_model_Change *given_2);
 SMALL void core_mem_drop_Change_3(atlas_model_Change x);
 SMALL void atlas_cache_atlas_search_table_Table_Destruct_drop(const atlas_search_Table given_1);
-SMALL void std_alloc_vec_opened_drop_run_Refusals_3(Slots_CacheChange_u64 *row, uint64_t from, uint64_t to);
+SMALL void std_alloc_vec_opened_drop_run_Known_3(Slots_CacheChange_u64 *row, uint64_t from, uint64_t to);
 SMALL Iter_u64 core_iter_slices_slice_T_iter_u64(slice_u64 given_1);
 SMALL void std_collections_index_table_group_Group_insert(std_collections_Group *self, uint64_t lane, uint32_t hash, uint32_t index);
 SMALL void std_collections_index_table_group_Group_mark_overflow(std_collections_Group *self, uint32_t hash);
@@ -12289,7 +12393,7 @@ SMALL Result_ptr std_heap_GlobalAllocator_grow_Link_2(const void *self, void *pt
 SMALL void std_alloc_vec_Vec_truncate_within_Link_12(Vec_Slot *self, uint64_t n);
 SMALL void std_collections_core_option_Option_Destruct_drop_2(Option given_1);
 SMALL void std_alloc_vec_opened_drop_run_Entry_u64_3(Slots_CacheChange_u64 *row, uint64_t from, uint64_t to);
-SMALL void atlas_cache_Destruct_none_drop_Refusals(atlas_cache_Refusals given_1);
+SMALL void atlas_cache_Destruct_none_drop_Known(atlas_cache_Known given_1);
 SMALL void std_alloc_Destruct_none_drop_CacheChange_u64(const atlas_cache_CacheChange_u64 given_1);
 SMALL void std_collections_index_table_probe_insert_all(slice_Group groups, slice_Bucket_2 buckets);
 SMALL Result std_alloc_vec_Vec_resize_Group_Later(Vec_u64_Later *self, uint64_t n, std_collections_Group value);
@@ -12329,8 +12433,10 @@ SMALL Result_Option_Rectangle_SheetError atlas_sheet_places_place_unless(guillot
 SMALL Option_Size atlas_sheet_places_refused_by(atlas_model_Size sprite, Option_Rectangle found);
 SMALL void std_alloc_vec_Vec_clear_FreeBox_3(Vec_Slot *self);
 SMALL void std_alloc_vec_Vec_destroy_empty_FreeBox_3(Vec_Slot self);
-SMALL void std_alloc_vec_Vec_clear_Link_13(Vec_Slot *self);
+SMALL void std_alloc_vec_Vec_clear_Link_12(Vec_Slot *self);
 SMALL void std_alloc_vec_Vec_destroy_empty_Link_8(Vec_Slot self);
+SMALL void std_alloc_vec_Vec_clear_Marks_7(Vec_Slot *self);
+SMALL void std_alloc_vec_Vec_destroy_empty_Marks_7(Vec_Slot self);
 SMALL bool std_alloc_vec_Vec_grow_tuple_u64_Size(Vec_Slot *self, uint64_t additional);
 SMALL void core_slots_Slots_copy_in_tuple_u64_Size(Slots_CacheChange_u64 *self, uint64_t to, slice_tuple_u64_Size src);
 SMALL void std_alloc_vec_Vec_clear_tuple_u64_Size_2(Vec_Slot *self);
@@ -12387,7 +12493,7 @@ SMALL void std_alloc_vec_opened_drop_run_OnPage_2(Slots_CacheChange_u64 *row, ui
 SMALL Option_Option_u64 core_iter_closures_MapIterator_next_Option_u64_Iter_u32_ref_u32(Map_Iter_u32 *given_1);
 SMALL uint64_t core_iter_slices_IterExactSizeIterator_len_u32(const Iter_u32 *self);
 SMALL void std_alloc_Destruct_none_drop_Option_u64(Option_u64 given_1);
-SMALL bool std_alloc_vec_Vec_grow_amortized_u64(Vec_Slot *self, uint64_t additional);
+COLD bool std_alloc_vec_Vec_grow_amortized_u64(Vec_Slot *self, uint64_t additional);
 SMALL void core_slice_sort_unstable_sort_u64(slice_u64_2 s, void *order);
 SMALL void std_alloc_vec_opened_drop_run_bool_2(Slots_CacheChange_u64 *row, uint64_t from, uint64_t to);
 SMALL Result std_alloc_vec_copies_extend_items_bool_bool_Map_Iter_Option_u64_map_Self_ref_u64_Map_Iter_Option_u64_map_Self_ref_u64(Vec_Slot *to, Map_Iter_Option_u64_map_Self_ref_u64_2 iter);
@@ -12429,12 +12535,14 @@ SMALL uint64_t core_iter_slices_IterExactSizeIterator_len_tuple_u64_Size(const I
 SMALL bool std_alloc_room_may_hold_Option_Placed(uint64_t n);
 SMALL Result_ptr std_alloc_vec_resize_Option_Placed(const void *alloc, void *ptr, uint64_t len, uint64_t old_cap, uint64_t new_cap);
 SMALL void std_alloc_Destruct_none_drop_Slot(atlas_store_Slot given_1);
-SMALL void core_mem_drop_Link_7(atlas_search_Link x);
+SMALL void atlas_search_Destruct_none_drop_Link(atlas_search_Link given_1);
+SMALL void std_alloc_Destruct_none_drop_Link(atlas_search_Link given_1);
+SMALL atlas_search_Mask atlas_search_masks_Mask_without(atlas_search_Mask self, uint64_t k);
 SMALL void atlas_search_heap_hang_left_Slot(slice_Slot_2 entries, atlas_search_Link above, atlas_search_Link less);
 SMALL void atlas_search_heap_swap_below_Slot(slice_Slot_2 entries, atlas_search_Link above);
-SMALL Option_u32 atlas_search_best_Best_rank_ahead(const atlas_search_Best *self, atlas_model_Rectangle rectangle, uint64_t corner);
-SMALL uint32_t atlas_search_best_reach_of(bool is_large, uint32_t rank);
-SMALL bool atlas_search_cells_Cell_is_beyond(atlas_search_Cell self, atlas_model_Size size, uint32_t more);
+SMALL uint32_t atlas_search_choice_margin_in(atlas_model_Rectangle rectangle, atlas_model_Size size);
+SMALL uint32_t atlas_search_best_rank(bool is_large, uint32_t margin);
+SMALL bool atlas_search_best_Best_is_beaten_by(const atlas_search_Best *self, uint32_t rank, uint64_t corner);
 SMALL tuple_Slots_CacheChange_u64 core_core_slice_sort_small_insert_each_FnOnce_call_once_Allocation(Slots_CacheChange_u64 given_2,
         uint64_t given_4);
 SMALL Reverse_tuple_u64_u32 atlas_allocator_atlas_rearranging_fn_sort_for_refit_sort_unstable_by_key_FnMut_call_mut(void *given_1,
@@ -12451,10 +12559,9 @@ SMALL void core_slots_lends_with_slots_Allocation_2(slice_Allocation_2 given_1, 
 SMALL void core_slots_lends_with_slots_Allocation_3(slice_Allocation_2 given_1, void *given_2);
 SMALL tuple_slice_Allocation_slice_Allocation core_slice_split_at_mut_inner_Allocation(slice_Allocation_2 s, uint64_t mid);
 SMALL void core_mem_swap_Allocation(atlas_model_Allocation *x, atlas_model_Allocation *y);
-SMALL void atlas_store_Destruct_none_drop_Link(atlas_search_Link given_1);
-SMALL void core_mem_drop_Link_8(atlas_search_Link x);
 SMALL void std_alloc_vec_opened_drop_run_Slot_6(Slots_CacheChange_u64 *row, uint64_t from, uint64_t to);
 SMALL void std_alloc_vec_opened_drop_run_Link_10(Slots_CacheChange_u64 *row, uint64_t from, uint64_t to);
+SMALL void std_alloc_vec_opened_drop_run_Marks_6(Slots_CacheChange_u64 *row, uint64_t from, uint64_t to);
 SMALL void std_alloc_vec_Vec_truncate_within_bool_3(Vec_Slot *self, uint64_t n);
 SMALL void core_hash_U64Hash_hash_FoldHasher(const uint64_t *given_1, FoldHasher *given_2);
 SMALL bool std_collections_hash_map_equivalent_RefEquivalent_equivalent_u64(const uint64_t **given_1, const uint64_t *given_2);
@@ -12463,12 +12570,10 @@ SMALL void core_slots_Slots_move_back_CacheChange_u64(Slots_CacheChange_u64 *sel
 SMALL void core_slots_Slots_move_at_once_CacheChange_u64(Slots_CacheChange_u64 *self, uint64_t from, uint64_t to, uint64_t count);
 SMALL tuple_Slots_CacheChange_u64_Slots_CacheChange_u64 core_core_slice_edits_either_waits_FnOnce_call_once_CacheChange_u64(Slots_CacheChange_u64 given_2, tuple_Slots_CacheChange_u64_u64 given_3);
 SMALL void atlas_entries_Destruct_none_drop_Link(atlas_entries_Link given_1);
-SMALL void std_alloc_vec_Vec_truncate_bool_4(Vec_Slot *self, uint64_t n);
-SMALL Result std_alloc_vec_Vec_extend_with_bool(Vec_Slot *self, uint64_t n, bool x);
-SMALL atlas_model_Rectangle atlas_allocator_atlas_AtlasAllocator_rehearse(const atlas_allocator_AtlasAllocator *self, slice_bool marks,
-        atlas_model_AllocId id);
-SMALL bool atlas_allocator_atlas_AtlasAllocator_fits(const atlas_allocator_AtlasAllocator *self, atlas_model_Size requested_size,
-        const atlas_model_Rectangle *area);
+SMALL Result std_alloc_vec_Vec_resize_bool(Vec_Slot *self, uint64_t n, bool value);
+SMALL void atlas_allocator_atlas_AtlasAllocator_prove_none_shown(const atlas_allocator_AtlasAllocator *self, slice_bool_2 marks);
+SMALL Option_Rectangle atlas_cache_rooms_Rooms_rehearse(const atlas_cache_Rooms *self, uint32_t page, slice_bool marks,
+        atlas_model_AllocId id, atlas_model_Size asked);
 SMALL void std_collections_Destruct_none_drop_eq_Self_ref_ref_u64_slice_u64_2(eq_Self_ref_ref_u64_slice_u64_2 given_1);
 SMALL bool std_collections_hash_map_fn_HashMap_take_eq_Fn_call_u64_ref_u64(const eq_Self_ref_ref_u64_slice_u64_2 *given_1,
         uint64_t given_2);
@@ -12490,6 +12595,7 @@ PART Joined core_slice_sort_runs_climb_Allocation(slice_Allocation_2 s, uint64_t
 SMALL void core_slice_sort_runs_settle_Allocation(slice_Allocation_2 s, uint64_t low, Run run, Sorter_tuple_u64_Size *sorter);
 SMALL void core_mem_drop_Slot_5(atlas_store_Slot x);
 SMALL void core_mem_drop_Link_9(atlas_search_Link x);
+SMALL void core_mem_drop_Marks_5(const atlas_search_Marks x);
 SMALL void core_slots_lends_with_slots_Change_u64(slice_Change_2 given_1, void *given_2, uint64_t given_3);
 SMALL bool core_slice_sort_order_ByKeyOrder_less_Change_u32(void *given_1, const atlas_model_Change *given_2,
         const atlas_model_Change *given_3);
@@ -12504,15 +12610,15 @@ SMALL bool core_slice_sort_fits_in_Change(uint64_t bytes);
 SMALL void core_slice_sort_small_network_sort_Change(slice_Change_2 s, void *order);
 SMALL tuple_slice_Change_slice_Change core_slice_slice_T_split_at_mut_Change(slice_Change_2 given_1, uint64_t given_2);
 SMALL void core_slice_edits_mirror_Change(slice_Change_2 front, uint64_t low, slice_Change_2 back, uint64_t n);
-SMALL void core_mem_drop_Refusals_3(atlas_cache_Refusals x);
+SMALL void core_mem_drop_Known_3(atlas_cache_Known x);
 SMALL array_u8_4 core_int_u32_to_le_bytes(uint32_t given_1);
 SMALL void std_alloc_vec_opened_drop_run_Link_11(Slots_CacheChange_u64 *row, uint64_t from, uint64_t to);
 SMALL void core_mem_drop_Entry_u64_3(atlas_entries_Entry_u64 x);
 SMALL void std_alloc_vec_Vec_truncate_Group_Later_3(Vec_u64_Later *self, uint64_t n);
 SMALL Result std_alloc_vec_Vec_extend_with_Group_Later(Vec_u64_Later *self, uint64_t n, std_collections_Group x);
 SMALL Result std_alloc_vec_Vec_reserve_Bucket_Later(Vec_u64_Later *self, uint64_t additional);
-SMALL bool std_alloc_vec_Vec_grow_amortized_u64_Later(Vec_u64_Later *self, uint64_t additional);
-SMALL bool std_alloc_vec_Vec_grow_amortized_u32_Later(Vec_u64_Later *self, uint64_t additional);
+COLD bool std_alloc_vec_Vec_grow_amortized_u64_Later(Vec_u64_Later *self, uint64_t additional);
+COLD bool std_alloc_vec_Vec_grow_amortized_u32_Later(Vec_u64_Later *self, uint64_t additional);
 SMALL Result_ptr std_heap_GlobalAllocator_grow_Vec_bool(const void *self, void *ptr, uint64_t len, uint64_t _old_cap, uint64_t new_cap);
 SMALL void atlas_cache_Destruct_none_drop_Rectangle(atlas_model_Rectangle given_1);
 SMALL Option_ref_PlainSize core_iter_slices_IterIterator_next_PlainSize(Iter_PlainSize *self);
@@ -12547,7 +12653,8 @@ SMALL Result_Option_Rectangle_SheetError atlas_sheet_places_place(guillotiere_Si
         atlas_sheet_Spacing spacing);
 SMALL void std_alloc_vec_Vec_truncate_FreeBox_3(Vec_Slot *self, uint64_t n);
 SMALL void std_alloc_vec_Vec_truncate_Link_13(Vec_Slot *self, uint64_t n);
-SMALL bool std_alloc_vec_Vec_grow_amortized_tuple_u64_Size(Vec_Slot *self, uint64_t additional);
+SMALL void std_alloc_vec_Vec_truncate_Marks_7(Vec_Slot *self, uint64_t n);
+COLD bool std_alloc_vec_Vec_grow_amortized_tuple_u64_Size(Vec_Slot *self, uint64_t additional);
 SMALL void core_ptr_copy_drop_copy_bits_tuple_u64_Size(void *src, void *dst, uint64_t count);
 SMALL void std_alloc_vec_Vec_truncate_tuple_u64_Size_2(Vec_Slot *self, uint64_t n);
 SMALL bool std_alloc_room_may_hold_Placed(uint64_t n);
@@ -12633,10 +12740,7 @@ SMALL ControlFlow_ref_tuple_u64_Size core_option_OptionTry_branch_ref_tuple_u64_
 SMALL uint64_t atlas_sheet_sheets_fn_numbers_of_map_FnMut_call_mut(void *given_1, const tuple_u64_Size *given_2);
 SMALL Result_ptr std_heap_GlobalAllocator_grow_Option_Placed(const void *self, void *ptr, uint64_t len, uint64_t _old_cap,
         uint64_t new_cap);
-SMALL void std_alloc_Destruct_none_drop_Link(atlas_search_Link given_1);
-SMALL uint32_t atlas_search_choice_margin_in(atlas_model_Rectangle rectangle, atlas_model_Size size);
-SMALL uint32_t atlas_search_best_rank(bool is_large, uint32_t margin);
-SMALL bool atlas_search_best_Best_is_beaten_by(const atlas_search_Best *self, uint32_t rank, uint64_t corner);
+SMALL uint32_t atlas_search_choice_spare(uint32_t from, uint32_t to, uint32_t side);
 SMALL tuple_Slots_CacheChange_u64 core_slice_sort_small_insert_each_Allocation(Slots_CacheChange_u64 row, uint64_t from);
 SMALL Reverse_tuple_u64_u32 atlas_allocator_atlas_rearranging_fn_sort_for_refit_sort_unstable_by_key(void *given_1,
         const atlas_model_Allocation *given_2);
@@ -12648,6 +12752,7 @@ SMALL tuple_Slots_CacheChange_u64 core_core_slice_sort_small_network_12_FnOnce_c
 SMALL tuple_Slots_CacheChange_u64 core_core_slice_sort_small_network_8_FnOnce_call_once_Allocation(Slots_CacheChange_u64 given_2);
 SMALL void core_mem_drop_Slot_6(atlas_store_Slot x);
 SMALL void core_mem_drop_Link_10(atlas_search_Link x);
+SMALL void core_mem_drop_Marks_6(const atlas_search_Marks x);
 SMALL void std_alloc_vec_opened_drop_run_bool_3(Slots_CacheChange_u64 *row, uint64_t from, uint64_t to);
 SMALL void core_hash_fold_FoldHasherHasher_write_u64(FoldHasher *given_1, uint64_t given_2);
 SMALL bool core_cmp_numbers_U64PartialEq_eq(const uint64_t *given_1, const uint64_t *given_2);
@@ -12656,9 +12761,12 @@ SMALL void core_slots_raw_move_down_CacheChange_u64(void *src, void *dst, uint64
 SMALL void core_slots_raw_move_up_CacheChange_u64(void *src, void *dst, uint64_t count);
 SMALL tuple_Slots_CacheChange_u64_Slots_CacheChange_u64 core_slice_edits_either_waits_CacheChange_u64(Slots_CacheChange_u64 spare,
         tuple_Slots_CacheChange_u64_u64 job);
-SMALL void std_alloc_vec_Vec_truncate_within_bool_4(Vec_Slot *self, uint64_t n);
-SMALL void std_alloc_vec_opened_fill_run_bool(Slots_CacheChange_u64 *row, uint64_t from, uint64_t to, bool x);
-SMALL atlas_model_Rectangle atlas_store_slots_rehearsing_show(slice_Slot slots, slice_bool marks, atlas_search_Link leaf);
+SMALL void std_alloc_vec_Vec_truncate_bool_4(Vec_Slot *self, uint64_t n);
+SMALL Result std_alloc_vec_Vec_extend_with_bool(Vec_Slot *self, uint64_t n, bool x);
+SMALL atlas_model_Rectangle atlas_allocator_atlas_AtlasAllocator_rehearse(const atlas_allocator_AtlasAllocator *self, slice_bool marks,
+        atlas_model_AllocId id);
+SMALL bool atlas_allocator_atlas_AtlasAllocator_fits(const atlas_allocator_AtlasAllocator *self, atlas_model_Size requested_size,
+        const atlas_model_Rectangle *area);
 SMALL bool std_collections_hash_map_fn_HashMap_take_eq_u64_ref_u64(const eq_Self_ref_ref_u64_slice_u64_2 *given_1, uint64_t given_2);
 SMALL std_collections_Bucket std_alloc_vec_Vec_swap_remove_within_Bucket_Later(Vec_u64_Later *self, uint64_t i);
 SMALL void core_slots_lends_with_slots_Allocation_u64_4(slice_Allocation_2 given_1, void *given_2, uint64_t given_3);
@@ -12673,6 +12781,7 @@ SMALL Run core_slice_sort_runs_next_run_Allocation(slice_Allocation_2 s, uint64_
 SMALL Run core_slice_sort_runs_join_Allocation(slice_Allocation_2 s, uint64_t low, Run left, Run right, Sorter_tuple_u64_Size *sorter);
 SMALL void atlas_cache_Destruct_none_drop_Slot(atlas_store_Slot given_1);
 SMALL void atlas_cache_Destruct_none_drop_Link(atlas_search_Link given_1);
+SMALL void atlas_cache_Destruct_none_drop_Marks(const atlas_search_Marks given_1);
 SMALL tuple_Slots_CacheChange_u64 core_core_slice_sort_small_insert_each_FnOnce_call_once_Change(Slots_CacheChange_u64 given_2,
         uint64_t given_4);
 SMALL uint32_t atlas_cache_cache_repacking_fn_sort_by_id_sort_unstable_by_key_FnMut_call_mut(void *given_1,
@@ -12686,7 +12795,7 @@ SMALL void core_slots_lends_with_slots_Change_2(slice_Change_2 given_1, void *gi
 SMALL void core_slots_lends_with_slots_Change_3(slice_Change_2 given_1, void *given_2);
 SMALL tuple_slice_Change_slice_Change core_slice_split_at_mut_inner_Change(slice_Change_2 s, uint64_t mid);
 SMALL void core_mem_swap_Change(atlas_model_Change *x, atlas_model_Change *y);
-SMALL void std_alloc_Destruct_none_drop_Refusals(atlas_cache_Refusals given_1);
+SMALL void std_alloc_Destruct_none_drop_Known(atlas_cache_Known given_1);
 SMALL void core_mem_drop_Link_11(atlas_entries_Link x);
 SMALL void std_alloc_Destruct_none_drop_Entry_u64(atlas_entries_Entry_u64 given_1);
 SMALL void std_alloc_vec_Vec_truncate_within_Group_Later_3(Vec_u64_Later *self, uint64_t n);
@@ -12698,7 +12807,7 @@ SMALL uint64_t std_alloc_vec_least_capacity_u32(void);
 SMALL bool std_alloc_vec_Vec_move_to_u32_Later(Vec_u64_Later *self, uint64_t cap);
 SMALL bool core_slice_slice_T_is_empty_PlainSize(slice_PlainSize given_1);
 SMALL atlas_model_Size guillotiere_c_sheet_fn_sizes_of_map(void *given_1, const guillotiere_size *given_2);
-SMALL bool std_alloc_vec_Vec_grow_amortized_Trial(Vec_Slot *self, uint64_t additional);
+COLD bool std_alloc_vec_Vec_grow_amortized_Trial(Vec_Slot *self, uint64_t additional);
 SMALL void atlas_sheet_atlas_sheet_trials_Trial_Destruct_drop(atlas_sheet_Trial given_1);
 SMALL uint64_t core_convert_U64FromU16_from(uint16_t given_1);
 SMALL bool atlas_sheet_search_is_roomy(atlas_model_Size size, uint64_t pixels);
@@ -12724,6 +12833,7 @@ SMALL uint32_t core_int_u32_max(uint32_t given_1, uint32_t given_2);
 SMALL Result_Option_Rectangle_SheetError atlas_sheet_places_request(guillotiere_SimpleAtlasAllocator *packer, atlas_model_Size size);
 SMALL void std_alloc_vec_Vec_truncate_within_FreeBox_3(Vec_Slot *self, uint64_t n);
 SMALL void std_alloc_vec_Vec_truncate_within_Link_13(Vec_Slot *self, uint64_t n);
+SMALL void std_alloc_vec_Vec_truncate_within_Marks_7(Vec_Slot *self, uint64_t n);
 SMALL uint64_t std_alloc_vec_least_capacity_tuple_u64_Size(void);
 SMALL void std_alloc_vec_Vec_truncate_within_tuple_u64_Size_2(Vec_Slot *self, uint64_t n);
 SMALL Result_ptr std_heap_GlobalAllocator_grow_Placed(const void *self, void *ptr, uint64_t len, uint64_t _old_cap, uint64_t new_cap);
@@ -12750,7 +12860,7 @@ SMALL tuple_u64_u64 core_slots_lends_with_slots_tuple_u64_Size_Sorter_tuple_u64_
         Sorter_tuple_u64_Size *given_2, uint64_t given_3);
 SMALL tuple_u64_u64 core_slots_lends_with_slots_tuple_u64_Size_Sorter_tuple_u64_Size_u64_tuple_u64_u64_2(slice_tuple_u64_Size_2 given_1,
         Sorter_tuple_u64_Size *given_2, uint64_t given_3);
-SMALL bool std_alloc_vec_Vec_grow_amortized_FreeBox_2(Vec_Slot *self, uint64_t additional);
+COLD bool std_alloc_vec_Vec_grow_amortized_FreeBox_2(Vec_Slot *self, uint64_t additional);
 SMALL void atlas_maxrects_Destruct_none_drop_FreeBox(atlas_maxrects_FreeBox given_1);
 SMALL void std_alloc_vec_Vec_truncate_FreeBox_5(Vec_Slot *self, uint64_t n);
 SMALL void atlas_maxrects_Destruct_none_drop(void);
@@ -12766,7 +12876,7 @@ SMALL atlas_model_Rectangle atlas_maxrects_packer_rectangle_in(atlas_maxrects_Fr
 SMALL Result_Option_Rectangle_AtlasError core_result_ResultFromResidualErrResidual_from_residual_Option_Rectangle_AllocFailed_Rectangle_AtlasError(ErrResidual_AllocFailed_Rectangle residual);
 SMALL uint32_t atlas_sheet_cells_unsigned(uint32_t number);
 SMALL uint32_t atlas_sheet_cells_signed(uint32_t number);
-SMALL bool std_alloc_vec_Vec_grow_amortized_Option_Rectangle(Vec_Slot *self, uint64_t additional);
+COLD bool std_alloc_vec_Vec_grow_amortized_Option_Rectangle(Vec_Slot *self, uint64_t additional);
 SMALL void std_alloc_Destruct_none_drop_Size(atlas_model_Size given_1);
 SMALL Option_u64 guillotiere_c_groups_fn_groups_of_map(void *given_1, const uint32_t *given_2);
 SMALL void core_slice_sort_small_insert_from_u64(slice_u64_2 s, uint64_t from, void *order);
@@ -12794,7 +12904,6 @@ SMALL tuple_Slots_CacheChange_u64 core_core_slice_edits_turn_through_room_FnOnce
         tuple_u64_u64 given_4);
 SMALL void core_slice_edits_slice_T_swap_with_slice_tuple_u64_Size(slice_tuple_u64_Size_2 given_1, slice_tuple_u64_Size_2 given_2);
 SMALL uint64_t atlas_sheet_sheets_fn_numbers_of_map(void *given_1, const tuple_u64_Size *given_2);
-SMALL uint32_t atlas_search_choice_spare(uint32_t from, uint32_t to, uint32_t side);
 SMALL void core_slice_sort_small_insert_Allocation(Slots_CacheChange_u64 *row, uint64_t i, void *order);
 SMALL tuple_u64_u32 atlas_allocator_atlas_rearranging_rank(const atlas_model_Allocation *allocation);
 SMALL Ordering core_cmp_numbers_U64Ord_cmp(const uint64_t *given_1, const uint64_t *given_2);
@@ -12814,17 +12923,16 @@ SMALL tuple_Slots_CacheChange_u64 core_slice_sort_small_network_12_Allocation(Sl
 SMALL tuple_Slots_CacheChange_u64 core_slice_sort_small_network_8_Allocation(Slots_CacheChange_u64 row);
 SMALL void atlas_pages_Destruct_none_drop_Slot(atlas_store_Slot given_1);
 SMALL void atlas_pages_Destruct_none_drop_Link(atlas_search_Link given_1);
+SMALL void atlas_pages_Destruct_none_drop_Marks(const atlas_search_Marks given_1);
 SMALL void core_mem_drop_bool_3(bool x);
 SMALL void core_hash_Hasher_write_u64_FoldHasher(FoldHasher *given_1, uint64_t given_2);
 SMALL tuple_Slots_CacheChange_u64_Slots_CacheChange_u64 core_slice_edits_front_waits_CacheChange_u64(Slots_CacheChange_u64 spare,
         Slots_CacheChange_u64 row);
 SMALL tuple_Slots_CacheChange_u64_Slots_CacheChange_u64 core_slice_edits_back_waits_CacheChange_u64(Slots_CacheChange_u64 spare,
         Slots_CacheChange_u64 row);
-SMALL void std_alloc_vec_opened_drop_run_bool_4(Slots_CacheChange_u64 *row, uint64_t from, uint64_t to);
-SMALL void core_slots_Slots_put_bool(Slots_CacheChange_u64 *given_1, uint64_t given_2, bool given_3);
-SMALL atlas_search_Link atlas_store_slots_rehearsing_first_open(slice_Slot slots, slice_bool_2 marks, atlas_search_Link at);
-SMALL atlas_search_Link atlas_store_slots_rehearsing_last_open(slice_Slot slots, slice_bool_2 marks, atlas_search_Link at);
-SMALL bool atlas_store_slots_rehearsing_fills_container(const atlas_store_Node *low, const atlas_store_Node *high);
+SMALL void std_alloc_vec_Vec_truncate_within_bool_4(Vec_Slot *self, uint64_t n);
+SMALL void std_alloc_vec_opened_fill_run_bool(Slots_CacheChange_u64 *row, uint64_t from, uint64_t to, bool x);
+SMALL atlas_model_Rectangle atlas_store_slots_rehearsing_show(slice_Slot slots, slice_bool marks, atlas_search_Link leaf);
 SMALL tuple_Slots_CacheChange_u64 core_core_slice_sort_small_insert_each_FnOnce_call_once_Allocation_2(Slots_CacheChange_u64 given_2,
         uint64_t given_4);
 SMALL Reverse_u64 atlas_cache_rooms_repacking_fn_sort_by_area_sort_by_key_FnMut_call_mut(void *given_1,
@@ -12849,9 +12957,9 @@ SMALL tuple_Slots_CacheChange_u64 core_core_slice_sort_small_network_12_FnOnce_c
 SMALL tuple_Slots_CacheChange_u64 core_core_slice_sort_small_network_8_FnOnce_call_once_Change(Slots_CacheChange_u64 given_2);
 SMALL void std_alloc_Destruct_none_drop_Link_2(atlas_entries_Link given_1);
 SMALL void std_alloc_vec_opened_drop_run_Group_2(Slots_CacheChange_u64 *row, uint64_t from, uint64_t to);
-SMALL bool std_alloc_vec_Vec_grow_amortized_Group_Later(Vec_u64_Later *self, uint64_t additional);
+COLD bool std_alloc_vec_Vec_grow_amortized_Group_Later(Vec_u64_Later *self, uint64_t additional);
 SMALL void core_slots_Slots_put_Group(Slots_CacheChange_u64 *given_1, uint64_t given_2, std_collections_Group given_3);
-SMALL bool std_alloc_vec_Vec_grow_amortized_Bucket_Later(Vec_u64_Later *self, uint64_t additional);
+COLD bool std_alloc_vec_Vec_grow_amortized_Bucket_Later(Vec_u64_Later *self, uint64_t additional);
 SMALL Result_ptr std_alloc_vec_resize_u64_Later(const std_collections_Later *alloc, void *ptr, uint64_t len, uint64_t old_cap,
         uint64_t new_cap);
 SMALL bool std_alloc_room_may_hold_u32(uint64_t n);
@@ -12885,6 +12993,7 @@ SMALL Result_ptr std_heap_GlobalAllocator_grow_Option_Rectangle(const void *self
         uint64_t new_cap);
 SMALL void std_alloc_vec_opened_drop_run_FreeBox_3(Slots_CacheChange_u64 *row, uint64_t from, uint64_t to);
 SMALL void std_alloc_vec_opened_drop_run_Link_12(Slots_CacheChange_u64 *row, uint64_t from, uint64_t to);
+SMALL void std_alloc_vec_opened_drop_run_Marks_7(Slots_CacheChange_u64 *row, uint64_t from, uint64_t to);
 SMALL void std_alloc_vec_opened_drop_run_tuple_u64_Size_2(Slots_CacheChange_u64 *row, uint64_t from, uint64_t to);
 SMALL Option_ref_Size core_iter_slices_IterIterator_next_Size(Iter_Size *self);
 SMALL Option_Size core_option_more_Option_ref_T_copied_Size(Option_ref_Size self);
@@ -12933,6 +13042,7 @@ SMALL void core_slice_sort_small_network_sort_u64(slice_u64_2 s, void *order);
 SMALL tuple_slice_u64_slice_u64 core_slice_slice_T_split_at_mut_u64(slice_u64_2 given_1, uint64_t given_2);
 SMALL void core_slice_edits_mirror_u64(slice_u64_2 front, uint64_t low, slice_u64_2 back, uint64_t n);
 SMALL Option_bool core_iter_closures_MapIterator_next_bool_Iter_Option_u64_map_Self_ref_u64_ref_Option_u64(Map_Iter_Option_u64_map_Self_ref_u64_2 *given_1);
+SMALL void core_slots_Slots_put_bool(Slots_CacheChange_u64 *given_1, uint64_t given_2, bool given_3);
 SMALL ControlFlow_ref_Option_u64 core_option_OptionTry_branch_ref_Option_u64(Option_ref_Option_u64 self);
 SMALL Option_u64 atlas_sheet_groups_fn_without_map_FnMut_call_mut(atlas_sheet_map_Self_ref_u64 *given_1, const Option_u64 *given_2);
 SMALL bool core_slice_slice_T_is_empty_Option_u64(slice_Option_u64 given_1);
@@ -12958,8 +13068,10 @@ SMALL array_u8_8 core_int_u64_to_le_bytes(uint64_t given_1);
 SMALL void core_hash_fold_FoldHasherHasher_write(FoldHasher *self, slice_u8 bytes);
 SMALL void core_slots_Slots_move_run_CacheChange_u64(Slots_CacheChange_u64 *self, uint64_t from, Slots_CacheChange_u64 *other, uint64_t to,
         uint64_t count);
-SMALL void core_mem_drop_bool_4(bool x);
-SMALL bool atlas_store_slots_rehearsing_is_open(slice_Slot slots, slice_bool_2 marks, atlas_search_Link at);
+SMALL void std_alloc_vec_opened_drop_run_bool_4(Slots_CacheChange_u64 *row, uint64_t from, uint64_t to);
+SMALL atlas_search_Link atlas_store_slots_rehearsing_first_open(slice_Slot slots, slice_bool_2 marks, atlas_search_Link at);
+SMALL atlas_search_Link atlas_store_slots_rehearsing_last_open(slice_Slot slots, slice_bool_2 marks, atlas_search_Link at);
+SMALL bool atlas_store_slots_rehearsing_fills_container(const atlas_store_Node *low, const atlas_store_Node *high);
 SMALL tuple_Slots_CacheChange_u64 core_slice_sort_small_insert_each_Allocation_2(Slots_CacheChange_u64 row, uint64_t from);
 SMALL Reverse_u64 atlas_cache_rooms_repacking_fn_sort_by_area_sort_by_key(void *given_1, const atlas_model_Allocation *given_2);
 SMALL uint64_t core_slots_lends_with_slots_Allocation_Sorter_Allocation_u64(slice_Allocation_2 given_1, Sorter_tuple_u64_Size *given_2);
@@ -13025,6 +13137,7 @@ SMALL Run core_slice_sort_runs_join_tuple_u64_Size_ByKey_sort_by_key_Self_ref_Ke
         Run left, Run right, Sorter_tuple_u64_Size_ByKey_sort_by_key_Self_ref_Key_Reverse_u64 *sorter);
 SMALL void core_mem_drop_FreeBox_3(guillotiere_FreeBox x);
 SMALL void core_mem_drop_Link_12(atlas_search_Link x);
+SMALL void core_mem_drop_Marks_7(const atlas_search_Marks x);
 SMALL void core_mem_drop_tuple_u64_Size_2(tuple_u64_Size x);
 SMALL bool core_slice_slice_T_is_empty_Size(slice_Size given_1);
 SMALL const atlas_model_Size *core_option_Option_unwrap_ref_Size(Option_ref_Size self);
@@ -13071,7 +13184,8 @@ SMALL uint64_t core_hash_fold_read_short(slice_u8 bytes);
 SMALL uint64_t core_hash_fold_folded_multiply(uint64_t a, uint64_t b);
 SMALL uint64_t core_hash_fold_read_u64(slice_u8 bytes, uint64_t at);
 SMALL void core_ptr_copy_drop_copy_nonoverlapping_CacheChange_u64(void *src, void *dst, uint64_t count);
-SMALL void std_alloc_Destruct_none_drop_bool(bool given_1);
+SMALL void core_mem_drop_bool_4(bool x);
+SMALL bool atlas_store_slots_rehearsing_is_open(slice_Slot slots, slice_bool_2 marks, atlas_search_Link at);
 SMALL void core_slice_sort_small_insert_Allocation_2(Slots_CacheChange_u64 *row, uint64_t i, void *order);
 SMALL tuple_Slots_tuple_u64_Size_Sorter_tuple_u64_Size_u64 core_core_slice_sort_short_sort_eight_FnOnce_call_once_Allocation(Slots_CacheChange_u64 given_2, Sorter_tuple_u64_Size given_3);
 SMALL tuple_Slots_tuple_u64_Size_Sorter_tuple_u64_Size core_core_slice_sort_short_sort_four_FnOnce_call_once_Allocation(Slots_CacheChange_u64 given_2, Sorter_tuple_u64_Size given_3);
@@ -13117,6 +13231,7 @@ SMALL tuple_u64_u64 core_slots_lends_with_slots_tuple_u64_Size_Sorter_tuple_u64_
 SMALL tuple_u64_u64 core_slots_lends_with_slots_tuple_u64_Size_Sorter_tuple_u64_Size_ByKey_sort_by_key_Self_ref_Key_Reverse_u64_u64_tuple_u64_u64_2(slice_tuple_u64_Size_2 given_1, Sorter_tuple_u64_Size_ByKey_sort_by_key_Self_ref_Key_Reverse_u64 *given_2, uint64_t given_3);
 SMALL void atlas_sheet_Destruct_none_drop_FreeBox(guillotiere_FreeBox given_1);
 SMALL void atlas_sheet_Destruct_none_drop_Link(atlas_search_Link given_1);
+SMALL void atlas_sheet_Destruct_none_drop_Marks(const atlas_search_Marks given_1);
 SMALL void std_alloc_Destruct_none_drop_tuple_u64_Size(tuple_u64_Size given_1);
 SMALL const tuple_u64_Size *core_slots_Slots_get_tuple_u64_Size(const Slots_CacheChange_u64 *self, uint64_t i);
 SMALL void core_slots_Slots_shift_tuple_u64_Size(Slots_CacheChange_u64 *self, uint64_t from, uint64_t to);
@@ -13162,6 +13277,7 @@ SMALL void core_slots_Slots_move_back_tuple_u64_Size(Slots_CacheChange_u64 *self
 SMALL void core_slots_Slots_move_at_once_tuple_u64_Size(Slots_CacheChange_u64 *self, uint64_t from, uint64_t to, uint64_t count);
 SMALL tuple_Slots_CacheChange_u64_Slots_CacheChange_u64 core_core_slice_edits_either_waits_FnOnce_call_once_tuple_u64_Size(Slots_CacheChange_u64 given_2, tuple_Slots_CacheChange_u64_u64 given_3);
 SMALL uint64_t core_hash_fold_read_u32(slice_u8 bytes, uint64_t at);
+SMALL void std_alloc_Destruct_none_drop_bool(bool given_1);
 SMALL tuple_Slots_tuple_u64_Size_Sorter_tuple_u64_Size_u64 core_slice_sort_short_sort_eight_Allocation(Slots_CacheChange_u64 row,
         Sorter_tuple_u64_Size sorter);
 SMALL tuple_Slots_tuple_u64_Size_Sorter_tuple_u64_Size core_slice_sort_short_sort_four_Allocation(Slots_CacheChange_u64 row,
@@ -13298,7 +13414,7 @@ SMALL uint32_t guillotiere_c_version_guillotiere_version(void) {
  * crates/guillotiere_c/src/version.rt
  */
 SMALL uint32_t guillotiere_c_version_guillotiere_interface(void) {
-    return 2u;
+    return 3u;
 }
 
 /* Makes an atlas with the default options, where the handle holds nothing.
@@ -13360,7 +13476,8 @@ SMALL uint32_t guillotiere_c_lifetimes_guillotiere_atlas_clone(const guillotiere
     bool is_8;
     Result_Box_AtlasAllocator_AllocFailed_AtlasAllocator result_12;
     atlas_store_Store store_20;
-    uint32_t n_25;
+    atlas_search_Table table_23;
+    uint32_t n_26;
     is_8 = guillotiere_c_atlas_handle_AtlasReader_holds(atlas);
     if (!is_8) {
         return 7u;
@@ -13380,12 +13497,14 @@ SMALL uint32_t guillotiere_c_lifetimes_guillotiere_atlas_clone(const guillotiere
         guillotiere_c_atlas_handle_AtlasHandle_put(copy, result_12.is.Ok.field_0);
         return 0u;
     }
-    n_25 = 5u;
-    result = n_25;
+    n_26 = 5u;
+    result = n_26;
     if (result_12.tag == 1u /* Err */) {
         store_20 = result_12.is.Err.field_0.value.store;
         std_alloc_vec_Vec_drop_Slot(store_20.slots);
-        std_alloc_vec_Vec_drop_Link(store_20.lists.heads);
+        table_23 = store_20.lists;
+        std_alloc_vec_Vec_drop_Link(table_23.heads);
+        std_alloc_vec_Vec_drop_Marks(table_23.marks);
     }
     return result;
 }
@@ -14595,7 +14714,7 @@ SMALL uint32_t guillotiere_c_cache_guillotiere_cache_new(const guillotiere_cache
         texturecache_21 = followedcache_20.cache;
         rooms_22 = texturecache_21.rooms;
         std_alloc_vec_Vec_drop_AtlasAllocator(rooms_22.pages);
-        std_alloc_vec_Vec_drop_Refusals(rooms_22.refused);
+        std_alloc_vec_Vec_drop_Known(rooms_22.known);
         entries_26 = texturecache_21.entries;
         std_collections_hash_map_HashMap_drop_u64_u32_BuildHasherDefault_FoldHasher_FoldHasher(entries_26.map);
         std_alloc_vec_Vec_drop_Link_2(entries_26.recency.links);
@@ -15032,7 +15151,7 @@ SMALL uint32_t guillotiere_c_cache_copy_guillotiere_cache_clone(const guillotier
         texturecache_20 = followedcache_19.cache;
         rooms_21 = texturecache_20.rooms;
         std_alloc_vec_Vec_drop_AtlasAllocator(rooms_21.pages);
-        std_alloc_vec_Vec_drop_Refusals(rooms_21.refused);
+        std_alloc_vec_Vec_drop_Known(rooms_21.known);
         entries_25 = texturecache_20.entries;
         std_collections_hash_map_HashMap_drop_u64_u32_BuildHasherDefault_FoldHasher_FoldHasher(entries_25.map);
         std_alloc_vec_Vec_drop_Link_2(entries_25.recency.links);
@@ -15272,7 +15391,7 @@ SMALL uint32_t guillotiere_c_cache_figures_guillotiere_cache_page_size(const gui
 }
 
 /* The areas of a page, counted from 0: that of its keys, with their padding and what the alignment added, and that which is
- * free; together that of the page. Takes one pass over the slots of the page. A page with much that is free, from which keys
+ * free; together that of the page. Takes a step, however many keys there are. A page with much that is free, from which keys
  * are evicted all the same, is worth a repacking. `DONE`; `NO_PAGE`; `EMPTY`.
  * crates/guillotiere_c/src/cache_figures.rt
  */
@@ -15367,7 +15486,8 @@ SMALL uint32_t guillotiere_c_cache_figures_guillotiere_cache_options_of(const gu
 
 /* The counts since the cache was made. Where a frame asks by `guillotiere_cache_get`, and inserts what that doesn't find, the
  * hit rate is `hits` by `hits` and `misses` together; where it only inserts, no miss is counted, and it is `hits` by calls.
- * `DONE`; `EMPTY`.
+ * Where `forced` grows, a `guillotiere_cache_repack` or a `guillotiere_cache_compact` helps; where `evictions` grows without
+ * it, the pages are too small for what is drawn. `DONE`; `EMPTY`.
  * crates/guillotiere_c/src/cache_figures.rt
  */
 SMALL uint32_t guillotiere_c_cache_figures_guillotiere_cache_statistics(const guillotiere_cache *cache, guillotiere_counts *counts) {
@@ -15660,7 +15780,8 @@ PART uint32_t guillotiere_c_lifetimes_start(uint32_t width, uint32_t height, con
     atlas_model_Size size_19;
     Result_Box_AtlasAllocator_AllocFailed_AtlasAllocator result_20;
     atlas_store_Store store_28;
-    uint32_t n_36;
+    atlas_search_Table table_31;
+    uint32_t n_37;
     if (guillotiere_c_atlas_handle_AtlasHandle_holds(atlas)) {
         return 29u;
     }
@@ -15693,12 +15814,14 @@ after_2:;
         guillotiere_c_atlas_handle_AtlasHandle_put(atlas, result_20.is.Ok.field_0);
         return 0u;
     }
-    n_36 = 5u;
-    result = n_36;
+    n_37 = 5u;
+    result = n_37;
     if (result_20.tag == 1u /* Err */) {
         store_28 = result_20.is.Err.field_0.value.store;
         std_alloc_vec_Vec_drop_Slot(store_28.slots);
-        std_alloc_vec_Vec_drop_Link(store_28.lists.heads);
+        table_31 = store_28.lists;
+        std_alloc_vec_Vec_drop_Link(table_31.heads);
+        std_alloc_vec_Vec_drop_Marks(table_31.marks);
     }
     return result;
 }
@@ -15836,6 +15959,14 @@ SMALL void std_alloc_vec_Vec_drop_Link(Vec_Slot given_1) {
     vec_2 = given_1;
     std_alloc_vec_Vec_clear_Link(&vec_2);
     std_alloc_vec_Vec_destroy_empty_Link(vec_2);
+}
+
+/* std_alloc::vec::Vec::drop */
+SMALL void std_alloc_vec_Vec_drop_Marks(Vec_Slot given_1) {
+    Vec_Slot vec_2;
+    vec_2 = given_1;
+    std_alloc_vec_Vec_clear_Marks(&vec_2);
+    std_alloc_vec_Vec_destroy_empty_Marks(vec_2);
 }
 
 /* std_alloc/src/boxed/deref_mut.rt */
@@ -16329,6 +16460,7 @@ PART Result_ChangeList_AtlasError atlas_allocator_atlas_AtlasAllocator_resize_an
     Result_ChangeList_AtlasError result_27;
     atlas_model_ChangeList changelist_30;
     atlas_store_Store store_36;
+    atlas_search_Table table_38;
     result_15 = atlas_allocator_atlas_AtlasAllocator_refit_order(self);
     controlflow_14 = core_result_ResultTry_branch_Vec_Allocation_AtlasError(result_15);
     if (controlflow_14.tag == 0u /* Continue */) {
@@ -16357,7 +16489,9 @@ PART Result_ChangeList_AtlasError atlas_allocator_atlas_AtlasAllocator_resize_an
         result = core_result_ResultFromResidualErrResidual_from_residual_ChangeList_AtlasError_AtlasError(controlflow_26.is.Break.field_0);
         store_36 = atlasallocator_8.store;
         std_alloc_vec_Vec_drop_Slot_2(store_36.slots);
-        std_alloc_vec_Vec_drop_Link_3(store_36.lists.heads);
+        table_38 = store_36.lists;
+        std_alloc_vec_Vec_drop_Link_3(table_38.heads);
+        std_alloc_vec_Vec_drop_Marks_2(table_38.marks);
         return result;
     }
     atlas_allocator_atlas_AtlasAllocator_become_like(self, atlasallocator_8);
@@ -16450,7 +16584,8 @@ SMALL uint32_t guillotiere_c_simple_start(uint32_t width, uint32_t height, const
     atlas_model_Size size_15;
     Result_Box_SimpleAtlasAllocator_AllocFailed_SimpleAtlasAllocator result_16;
     guillotiere_FreeBoxes freeboxes_24;
-    uint32_t n_31;
+    atlas_search_Table table_27;
+    uint32_t n_32;
     if (guillotiere_c_simple_handle_SimpleHandle_holds(simple)) {
         return 29u;
     }
@@ -16476,12 +16611,14 @@ after_2:;
         guillotiere_c_simple_handle_SimpleHandle_put(simple, result_16.is.Ok.field_0);
         return 0u;
     }
-    n_31 = 5u;
-    result = n_31;
+    n_32 = 5u;
+    result = n_32;
     if (result_16.tag == 1u /* Err */) {
         freeboxes_24 = result_16.is.Err.field_0.value.boxes;
         std_alloc_vec_Vec_drop_FreeBox(freeboxes_24.entries);
-        std_alloc_vec_Vec_drop_Link(freeboxes_24.table.heads);
+        table_27 = freeboxes_24.table;
+        std_alloc_vec_Vec_drop_Link(table_27.heads);
+        std_alloc_vec_Vec_drop_Marks(table_27.marks);
     }
     return result;
 }
@@ -16654,7 +16791,9 @@ SMALL Result_AtlasError guillotiere_simple_SimpleAtlasAllocator_init_from_alloca
     ControlFlow_ErrResidual_AtlasError controlflow_18;
     Result_AtlasError result_19;
     slice_Slot slice_21;
-    guillotiere_FreeBoxes freeboxes_28;
+    atlas_search_Table table_26;
+    guillotiere_FreeBoxes freeboxes_29;
+    atlas_search_Table table_31;
     size_3 = atlas_allocator_atlas_AtlasAllocator_size(source);
     at_4 = atlas_allocator_atlas_store_of(source);
     scale_5 = atlas_store_store_Store_scale(at_4);
@@ -16673,13 +16812,17 @@ SMALL Result_AtlasError guillotiere_simple_SimpleAtlasAllocator_init_from_alloca
     if (!(controlflow_18.tag == 0u /* Continue */)) {
         result = core_result_ResultFromResidualErrResidual_from_residual_AtlasError_AtlasError(controlflow_18.Break.field_0);
         std_alloc_vec_Vec_drop_FreeBox_2(freeboxes_6.entries);
-        std_alloc_vec_Vec_drop_Link_4(freeboxes_6.table.heads);
+        table_26 = freeboxes_6.table;
+        std_alloc_vec_Vec_drop_Link_4(table_26.heads);
+        std_alloc_vec_Vec_drop_Marks_3(table_26.marks);
         return result;
     }
-    freeboxes_28 = self->boxes;
+    freeboxes_29 = self->boxes;
     self->boxes = freeboxes_6;
-    std_alloc_vec_Vec_drop_FreeBox_2(freeboxes_28.entries);
-    std_alloc_vec_Vec_drop_Link_4(freeboxes_28.table.heads);
+    std_alloc_vec_Vec_drop_FreeBox_2(freeboxes_29.entries);
+    table_31 = freeboxes_29.table;
+    std_alloc_vec_Vec_drop_Link_4(table_31.heads);
+    std_alloc_vec_Vec_drop_Marks_3(table_31.marks);
     self->size = size_3;
     self->options = scale_5;
     return new_Result_AtlasError_Ok();
@@ -17071,11 +17214,11 @@ SMALL void std_alloc_vec_Vec_drop_AtlasAllocator(Vec_Slot given_1) {
 }
 
 /* std_alloc::vec::Vec::drop */
-SMALL void std_alloc_vec_Vec_drop_Refusals(Vec_Slot given_1) {
+SMALL void std_alloc_vec_Vec_drop_Known(Vec_Slot given_1) {
     Vec_Slot vec_2;
     vec_2 = given_1;
-    std_alloc_vec_Vec_clear_Refusals(&vec_2);
-    std_alloc_vec_Vec_destroy_empty_Refusals(vec_2);
+    std_alloc_vec_Vec_clear_Known(&vec_2);
+    std_alloc_vec_Vec_destroy_empty_Known(vec_2);
 }
 
 /* std_collections::hash_map::HashMap::drop */
@@ -17492,7 +17635,7 @@ SMALL Result_FollowedCache guillotiere_c_followed_FollowedCache_clone(const guil
         result = core_result_ResultFromResidualErrResidual_from_residual_FollowedCache();
         rooms_29 = texturecache_2.rooms;
         std_alloc_vec_Vec_drop_AtlasAllocator(rooms_29.pages);
-        std_alloc_vec_Vec_drop_Refusals(rooms_29.refused);
+        std_alloc_vec_Vec_drop_Known(rooms_29.known);
         entries_33 = texturecache_2.entries;
         std_collections_hash_map_HashMap_drop_u64_u32_BuildHasherDefault_FoldHasher_FoldHasher(entries_33.map);
         std_alloc_vec_Vec_drop_Link_2(entries_33.recency.links);
@@ -17653,7 +17796,7 @@ SMALL Option_Size atlas_cache_cache_TextureCache_page_size_u64_BuildHasherDefaul
 }
 
 /* The area of all entries of a page together, with their padding and what alignment added, in pixels; None if
- * there is no such page. Takes no memory, and one pass over the slots of the page.
+ * there is no such page. Takes no memory, and no walk.
  * crates/atlas_cache/src/cache/figures.rt
  */
 SMALL Option_u64 atlas_cache_cache_TextureCache_live_area_u64_BuildHasherDefault_FoldHasher_FoldHasher(const atlas_cache_TextureCache_u64_BuildHasherDefault_FoldHasher_FoldHasher *self, uint32_t page) {
@@ -17670,8 +17813,7 @@ SMALL Option_u64 atlas_cache_cache_TextureCache_live_area_u64_BuildHasherDefault
     return option_6;
 }
 
-/* The area of a page that no entry takes, in pixels; None if there is no such page. Takes no memory, and one pass
- * over the slots of the page.
+/* The area of a page that no entry takes, in pixels; None if there is no such page. Takes no memory, and no walk.
  * crates/atlas_cache/src/cache/figures.rt
  */
 SMALL Option_u64 atlas_cache_cache_TextureCache_free_area_u64_BuildHasherDefault_FoldHasher_FoldHasher(const atlas_cache_TextureCache_u64_BuildHasherDefault_FoldHasher_FoldHasher *self, uint32_t page) {
@@ -17745,11 +17887,11 @@ SMALL atlas_cache_Counts atlas_cache_cache_TextureCache_statistics_u64_BuildHash
     return self->counts;
 }
 
-/* Hits, misses and evictions as C has them.
+/* The counts of a cache as C has them.
  * crates/guillotiere_c/src/plain_cache.rt
  */
 SMALL guillotiere_counts guillotiere_c_plain_cache_plain_counts(atlas_cache_Counts counts) {
-    return new_guillotiere_counts(counts.hits, counts.misses, counts.evictions);
+    return new_guillotiere_counts(counts.hits, counts.misses, counts.evictions, counts.forced);
 }
 
 /* A sheet's options of C's as the library has them; None if the sheets are of no kind, or the padding is above 65535.
@@ -18257,42 +18399,63 @@ SMALL void core_mem_drop(void) {
 SMALL Result_Store atlas_store_store_Store_copy(const atlas_store_Store *self) {
     Result_Store result;
     Vec_Slot vec_2;
-    ControlFlow_Vec_AllocId controlflow_8;
-    Result_Vec_AllocId result_9;
-    slice_Slot slice_13;
-    Vec_Slot vec_16;
-    ControlFlow_Table controlflow_17;
-    Result_Table result_18;
-    atlas_search_Table table_20;
-    atlas_search_Link link_23;
-    atlas_search_Scale scale_24;
+    atlas_search_Table table_5;
+    ControlFlow_Vec_AllocId controlflow_10;
+    Result_Vec_AllocId result_11;
+    slice_Slot slice_15;
+    Vec_Slot vec_18;
+    ControlFlow_Table controlflow_19;
+    Result_Table result_20;
+    atlas_search_Table table_22;
+    uint64_t n_23;
+    ControlFlow controlflow_26;
+    Result result_27;
+    Vec_Slot vec_29;
+    atlas_search_Table table_30;
+    atlas_search_Link link_31;
+    atlas_search_Scale scale_32;
     (void)std_alloc_vec_Vec_allocator_FreeBox(&self->slots);
-    slice_13 = std_alloc_vec_derefs_VecDerefSlice_deref_Slot(&self->slots);
-    result_9 = std_alloc_vec_Vec_from_slice_Slot(slice_13);
-    controlflow_8 = core_result_ResultTry_branch_Vec_AllocId(result_9);
-    if (controlflow_8.tag == 0u /* Continue */) {
-        vec_16 = controlflow_8.Continue.field_0;
+    slice_15 = std_alloc_vec_derefs_VecDerefSlice_deref_Slot(&self->slots);
+    result_11 = std_alloc_vec_Vec_from_slice_Slot(slice_15);
+    controlflow_10 = core_result_ResultTry_branch_Vec_AllocId(result_11);
+    if (controlflow_10.tag == 0u /* Continue */) {
+        vec_18 = controlflow_10.Continue.field_0;
     } else {
         return core_result_ResultFromResidualErrResidual_from_residual_Store();
     }
-    vec_2 = vec_16;
-    result_18 = atlas_search_table_Table_copy(&self->lists);
-    controlflow_17 = core_result_ResultTry_branch_Table(result_18);
-    if (controlflow_17.tag == 0u /* Continue */) {
-        table_20 = controlflow_17.Continue.field_0;
+    vec_2 = vec_18;
+    result_20 = atlas_search_table_Table_copy(&self->lists);
+    controlflow_19 = core_result_ResultTry_branch_Table(result_20);
+    if (controlflow_19.tag == 0u /* Continue */) {
+        table_22 = controlflow_19.Continue.field_0;
     } else {
         result = core_result_ResultFromResidualErrResidual_from_residual_Store();
         std_alloc_vec_Vec_drop_Slot_3(vec_2);
         return result;
     }
-    link_23 = self->unused;
-    scale_24 = atlas_search_bands_Scale_copy(&self->options);
+    table_5 = table_22;
+    n_23 = std_alloc_vec_Vec_capacity_Slot(&vec_2);
+    if (8u < n_23) {
+        result_27 = atlas_search_table_Table_grow(&table_5);
+        controlflow_26 = core_result_ResultTry_branch(result_27);
+        if (!(controlflow_26.tag == 0u /* Continue */)) {
+            result = core_result_ResultFromResidualErrResidual_from_residual_Store();
+            std_alloc_vec_Vec_drop_Link_5(table_5.heads);
+            std_alloc_vec_Vec_drop_Marks_4(table_5.marks);
+            std_alloc_vec_Vec_drop_Slot_3(vec_2);
+            return result;
+        }
+    }
+    vec_29 = vec_2;
+    table_30 = table_5;
+    link_31 = self->unused;
+    scale_32 = atlas_search_bands_Scale_copy(&self->options);
     atlas_store_store_turns_Turns_new();
     result.tag = 0u;
-    result.Ok.field_0.slots = vec_2;
-    result.Ok.field_0.lists = table_20;
-    result.Ok.field_0.unused = link_23;
-    result.Ok.field_0.options = scale_24;
+    result.Ok.field_0.slots = vec_29;
+    result.Ok.field_0.lists = table_30;
+    result.Ok.field_0.unused = link_31;
+    result.Ok.field_0.options = scale_32;
     result.Ok.field_0.recent = self->recent;
     return result;
 }
@@ -18400,6 +18563,19 @@ SMALL void std_alloc_vec_Vec_clear_Link(Vec_Slot *self) {
  */
 SMALL void std_alloc_vec_Vec_destroy_empty_Link(Vec_Slot self) {
     std_alloc_vec_Vec_free_block_Link(self);
+    guillotiere_c_Destruct_none_drop();
+}
+
+/* std_alloc/src/vec/ends.rt */
+SMALL void std_alloc_vec_Vec_clear_Marks(Vec_Slot *self) {
+    std_alloc_vec_Vec_truncate_Marks(self, 0u);
+}
+
+/* Frees an empty Vec, also where `T` is not `Drop`.
+ * std_alloc/src/vec/methods.rt
+ */
+SMALL void std_alloc_vec_Vec_destroy_empty_Marks(Vec_Slot self) {
+    std_alloc_vec_Vec_free_block_Marks(self);
     guillotiere_c_Destruct_none_drop();
 }
 
@@ -18609,20 +18785,40 @@ SMALL uint32_t atlas_tree_growth_slots_for(const atlas_store_Store *store, atlas
  */
 SMALL Result_AtlasError atlas_store_store_Store_make_room(atlas_store_Store *self, uint32_t used, uint32_t limit, uint32_t needed) {
     uint64_t n_5;
-    uint64_t n_11;
-    ControlFlow controlflow_13;
-    Result result_14;
-    uint64_t n_16;
+    uint64_t n_15;
+    ControlFlow controlflow_17;
+    Result result_18;
+    uint64_t n_20;
+    ControlFlow controlflow_23;
+    Result result_24;
+    ControlFlow controlflow_26;
+    uint64_t n_28;
+    Result result_34;
     if ((limit - used) < needed) {
         return new_Result_AtlasError_Err(new_atlas_model_AtlasError_Slots());
     }
     n_5 = (uint64_t)(used + needed);
-    n_11 = std_alloc_vec_Vec_capacity_Slot(&self->slots);
-    if (n_11 < n_5) {
-        n_16 = std_alloc_vec_Vec_len_Allocation(&self->slots);
-        result_14 = std_alloc_vec_Vec_reserve_Slot(&self->slots, n_5 - n_16);
-        controlflow_13 = core_result_ResultTry_branch(result_14);
-        if (!(controlflow_13.tag == 0u /* Continue */)) {
+    n_15 = std_alloc_vec_Vec_capacity_Slot(&self->slots);
+    if (n_5 <= n_15) {
+        return new_Result_AtlasError_Ok();
+    }
+    if (n_5 <= 8u) {
+        n_20 = std_alloc_vec_Vec_len_Allocation(&self->slots);
+        result_18 = std_alloc_vec_Vec_reserve_exact_Slot(&self->slots, 8u - n_20);
+        controlflow_17 = core_result_ResultTry_branch(result_18);
+        if (!(controlflow_17.tag == 0u /* Continue */)) {
+            return core_result_ResultFromResidualErrResidual_from_residual_AtlasError();
+        }
+    } else {
+        result_24 = atlas_search_table_Table_grow(&self->lists);
+        controlflow_23 = core_result_ResultTry_branch(result_24);
+        if (!(controlflow_23.tag == 0u /* Continue */)) {
+            return core_result_ResultFromResidualErrResidual_from_residual_AtlasError();
+        }
+        n_28 = std_alloc_vec_Vec_len_Allocation(&self->slots);
+        result_34 = std_alloc_vec_Vec_reserve_Slot(&self->slots, n_5 - n_28);
+        controlflow_26 = core_result_ResultTry_branch(result_34);
+        if (!(controlflow_26.tag == 0u /* Continue */)) {
             return core_result_ResultFromResidualErrResidual_from_residual_AtlasError();
         }
     }
@@ -19153,6 +19349,14 @@ SMALL void std_alloc_vec_Vec_drop_Link_3(Vec_Slot given_1) {
     std_alloc_vec_Vec_destroy_empty_Link_3(vec_2);
 }
 
+/* std_alloc::vec::Vec::drop */
+SMALL void std_alloc_vec_Vec_drop_Marks_2(Vec_Slot given_1) {
+    Vec_Slot vec_2;
+    vec_2 = given_1;
+    std_alloc_vec_Vec_clear_Marks_2(&vec_2);
+    std_alloc_vec_Vec_destroy_empty_Marks_2(vec_2);
+}
+
 /* Stores what another atlas stores. The turns stay.
  * crates/atlas_allocator/src/atlas.rt
  */
@@ -19481,35 +19685,23 @@ SMALL const void *std_alloc_vec_Vec_allocator_FreeBox(const Vec_Slot *self) {
  */
 SMALL Result_FreeBoxes_AtlasError guillotiere_simple_boxes_FreeBoxes_new(void) {
     Result_FreeBoxes_AtlasError result;
-    Vec_Slot vec_2;
-    ControlFlow_Vec_AllocId controlflow_8;
-    Result_Vec_AllocId result_9;
-    Vec_Slot vec_10;
-    ControlFlow_Table controlflow_11;
-    Result_Table result_12;
-    atlas_search_Table table_13;
-    result_9 = std_alloc_vec_Vec_with_capacity_FreeBox(1u);
-    controlflow_8 = core_result_ResultTry_branch_Vec_AllocId(result_9);
-    if (controlflow_8.tag == 0u /* Continue */) {
-        vec_10 = controlflow_8.Continue.field_0;
+    atlas_search_Table table_5;
+    ControlFlow_Vec_AllocId controlflow_6;
+    Result_Vec_AllocId result_7;
+    Vec_Slot vec_8;
+    result_7 = std_alloc_vec_Vec_with_capacity_FreeBox(1u);
+    controlflow_6 = core_result_ResultTry_branch_Vec_AllocId(result_7);
+    if (controlflow_6.tag == 0u /* Continue */) {
+        vec_8 = controlflow_6.Continue.field_0;
     } else {
         return core_result_ResultFromResidualErrResidual_from_residual_FreeBoxes_AtlasError();
     }
-    vec_2 = vec_10;
-    result_12 = atlas_search_table_Table_new();
-    controlflow_11 = core_result_ResultTry_branch_Table(result_12);
-    if (controlflow_11.tag == 0u /* Continue */) {
-        table_13 = controlflow_11.Continue.field_0;
-    } else {
-        result = core_result_ResultFromResidualErrResidual_from_residual_FreeBoxes_AtlasError();
-        std_alloc_vec_Vec_drop_FreeBox_2(vec_2);
-        return result;
-    }
+    table_5 = atlas_search_table_Table_new();
     result.tag = 0u;
-    result.is.Ok.field_0.entries = vec_2;
+    result.is.Ok.field_0.entries = vec_8;
     result.is.Ok.field_0.unused = new_atlas_search_Link(4294967295u);
     result.is.Ok.field_0.used = 0u;
-    result.is.Ok.field_0.table = table_13;
+    result.is.Ok.field_0.table = table_5;
     return result;
 }
 
@@ -19571,6 +19763,14 @@ SMALL void std_alloc_vec_Vec_drop_Link_4(Vec_Slot given_1) {
     vec_2 = given_1;
     std_alloc_vec_Vec_clear_Link_4(&vec_2);
     std_alloc_vec_Vec_destroy_empty_Link_4(vec_2);
+}
+
+/* std_alloc::vec::Vec::drop */
+SMALL void std_alloc_vec_Vec_drop_Marks_3(Vec_Slot given_1) {
+    Vec_Slot vec_2;
+    vec_2 = given_1;
+    std_alloc_vec_Vec_clear_Marks_3(&vec_2);
+    std_alloc_vec_Vec_destroy_empty_Marks_3(vec_2);
 }
 
 /* std_alloc/src/vec/derefs.rt */
@@ -19954,15 +20154,15 @@ SMALL void std_alloc_vec_Vec_destroy_empty_AtlasAllocator(Vec_Slot self) {
 }
 
 /* std_alloc/src/vec/ends.rt */
-SMALL void std_alloc_vec_Vec_clear_Refusals(Vec_Slot *self) {
-    std_alloc_vec_Vec_truncate_Refusals(self, 0u);
+SMALL void std_alloc_vec_Vec_clear_Known(Vec_Slot *self) {
+    std_alloc_vec_Vec_truncate_Known(self, 0u);
 }
 
 /* Frees an empty Vec, also where `T` is not `Drop`.
  * std_alloc/src/vec/methods.rt
  */
-SMALL void std_alloc_vec_Vec_destroy_empty_Refusals(Vec_Slot self) {
-    std_alloc_vec_Vec_free_block_Refusals(self);
+SMALL void std_alloc_vec_Vec_destroy_empty_Known(Vec_Slot self) {
+    std_alloc_vec_Vec_free_block_Known(self);
     guillotiere_c_Destruct_none_drop();
 }
 
@@ -20194,6 +20394,8 @@ PART void guillotiere_c_followed_drop_taken(Vec_Slot *changes, uint64_t *taken) 
  * after `FrameFull` and after an error: `Memory`, `Slots` if those of the first page that has room, or of the one that would grow,
  * don't suffice (no later frame helps then, but `remove`, `trim` and `clear` do), or `Numbers` only where 4,294,967,295 entries are
  * still held.
+ * 
+ * What an insertion evicted counts as forced, by fragmentation, where some page had as much free area before it as was asked for.
  * 
  * A new key with an empty size, of which a side is 0 or below, becomes a blank entry: `Placed` with a place that is
  * empty. It takes no room, so no page changes and nothing is evicted for it, nor is it ever evicted for another key.
@@ -20492,7 +20694,7 @@ SMALL Result_TextureCache_u64_BuildHasherDefault_FoldHasher_FoldHasher atlas_cac
     } else {
         result = core_result_ResultFromResidualErrResidual_from_residual_TextureCache_u64_BuildHasherDefault_FoldHasher_FoldHasher();
         std_alloc_vec_Vec_drop_AtlasAllocator_2(rooms_2.pages);
-        std_alloc_vec_Vec_drop_Refusals_2(rooms_2.refused);
+        std_alloc_vec_Vec_drop_Known_2(rooms_2.known);
         return result;
     }
     n_18 = self->frame;
@@ -20718,23 +20920,32 @@ SMALL atlas_model_Size atlas_cache_rooms_Rooms_page_size(const atlas_cache_Rooms
 }
 
 /* The area of all live rectangles of a page together, in unit squares. Requires that there is such a page. Takes no
- * memory, and one pass over the slots of the page.
+ * memory, and no walk.
  * crates/atlas_cache/src/rooms/repacking.rt
  */
 SMALL uint64_t atlas_cache_rooms_Rooms_live_area(const atlas_cache_Rooms *self, uint32_t page) {
-    const atlas_allocator_AtlasAllocator *at_3;
-    at_3 = std_alloc_vec_derefs_VecIndexUsize_index_AtlasAllocator(&self->pages, (uint64_t)page);
-    return atlas_allocator_atlas_AtlasAllocator_allocated_area(at_3);
+    const atlas_cache_Known *at_3;
+    at_3 = std_alloc_vec_derefs_VecIndexUsize_index_Known(&self->known, (uint64_t)page);
+    return at_3->live;
 }
 
 /* The area of all free rectangles of a page together, in unit squares. Requires that there is such a page. Takes no
- * memory, and one pass over the slots of the page.
+ * memory, and no walk.
  * crates/atlas_cache/src/rooms/repacking.rt
  */
 SMALL uint64_t atlas_cache_rooms_Rooms_free_area(const atlas_cache_Rooms *self, uint32_t page) {
     const atlas_allocator_AtlasAllocator *at_3;
-    at_3 = std_alloc_vec_derefs_VecIndexUsize_index_AtlasAllocator(&self->pages, (uint64_t)page);
-    return atlas_allocator_atlas_AtlasAllocator_free_area(at_3);
+    const atlas_allocator_AtlasAllocator *at_4;
+    uint64_t n_8;
+    atlas_model_Size size_9;
+    const atlas_cache_Known *at_10;
+    at_4 = std_alloc_vec_derefs_VecIndexUsize_index_AtlasAllocator(&self->pages, (uint64_t)page);
+    at_3 = at_4;
+    atlas_allocator_atlas_AtlasAllocator_prove_sound(at_3);
+    size_9 = atlas_allocator_atlas_AtlasAllocator_size(at_3);
+    n_8 = atlas_cache_rooms_usable_pixels_of(size_9);
+    at_10 = std_alloc_vec_derefs_VecIndexUsize_index_Known(&self->known, (uint64_t)page);
+    return n_8 - at_10->live;
 }
 
 /* The area of a page, in pixels, that is free in rectangles which have no room for an entry of this size, with its
@@ -21302,34 +21513,22 @@ SMALL void std_alloc_vec_Vec_destroy_empty_Option_Placed(Vec_Slot self) {
 SMALL Result_Store atlas_store_store_Store_new(atlas_model_Size size, const atlas_model_AllocatorOptions *options) {
     Result_Store result;
     atlas_store_Store store_4;
-    Vec_Slot vec_9;
-    ControlFlow_Vec_AllocId controlflow_10;
-    Result_Vec_AllocId result_11;
-    Vec_Slot vec_13;
-    ControlFlow_Table controlflow_16;
-    Result_Table result_17;
-    atlas_search_Table table_19;
-    atlas_search_Scale scale_22;
-    result_11 = std_alloc_vec_Vec_with_capacity_Slot(1u);
-    controlflow_10 = core_result_ResultTry_branch_Vec_AllocId(result_11);
-    if (controlflow_10.tag == 0u /* Continue */) {
-        vec_13 = controlflow_10.Continue.field_0;
+    ControlFlow_Vec_AllocId controlflow_8;
+    Result_Vec_AllocId result_9;
+    Vec_Slot vec_11;
+    atlas_search_Table table_13;
+    atlas_search_Scale scale_16;
+    result_9 = std_alloc_vec_Vec_with_capacity_Slot(1u);
+    controlflow_8 = core_result_ResultTry_branch_Vec_AllocId(result_9);
+    if (controlflow_8.tag == 0u /* Continue */) {
+        vec_11 = controlflow_8.Continue.field_0;
     } else {
         return core_result_ResultFromResidualErrResidual_from_residual_Store();
     }
-    vec_9 = vec_13;
-    result_17 = atlas_search_table_Table_new_2();
-    controlflow_16 = core_result_ResultTry_branch_Table(result_17);
-    if (controlflow_16.tag == 0u /* Continue */) {
-        table_19 = controlflow_16.Continue.field_0;
-    } else {
-        result = core_result_ResultFromResidualErrResidual_from_residual_Store();
-        std_alloc_vec_Vec_drop_Slot_3(vec_9);
-        return result;
-    }
-    scale_22 = atlas_search_bands_Scale_new(options);
+    table_13 = atlas_search_table_Table_new();
+    scale_16 = atlas_search_bands_Scale_new(options);
     atlas_store_store_turns_Turns_new();
-    store_4 = new_atlas_store_Store(vec_9, table_19, new_atlas_search_Link(4294967295u), scale_22,
+    store_4 = new_atlas_store_Store(vec_11, table_13, new_atlas_search_Link(4294967295u), scale_16,
             new_atlas_store_Recent(new_atlas_search_Link(4294967295u), 0u));
     atlas_store_store_Store_start(&store_4, size, options);
     result.tag = 0u;
@@ -21396,29 +21595,42 @@ SMALL Result_Store core_result_ResultFromResidualErrResidual_from_residual_Store
     return result;
 }
 
-/* A copy, in new memory of the same allocator.
+/* A copy, in new memory of the same allocator, which takes as much as the table has.
  * crates/atlas_search/src/table.rt
  */
 SMALL Result_Table atlas_search_table_Table_copy(const atlas_search_Table *self) {
     Result_Table result;
-    ControlFlow_Vec_AllocId controlflow_5;
-    Result_Vec_AllocId result_6;
-    slice_Link slice_10;
-    Vec_Slot vec_13;
-    atlas_search_Marks marks_15;
+    Vec_Slot vec_6;
+    ControlFlow_Vec_AllocId controlflow_7;
+    Result_Vec_AllocId result_8;
+    slice_Link slice_12;
+    Vec_Slot vec_15;
+    ControlFlow_Vec_AllocId controlflow_18;
+    Result_Vec_AllocId result_19;
+    Vec_Slot vec_21;
     (void)std_alloc_vec_Vec_allocator_FreeBox(&self->heads);
-    slice_10 = std_alloc_vec_derefs_VecDerefSlice_deref_Link(&self->heads);
-    result_6 = std_alloc_vec_Vec_from_slice_Link(slice_10);
-    controlflow_5 = core_result_ResultTry_branch_Vec_AllocId(result_6);
-    if (controlflow_5.tag == 0u /* Continue */) {
-        vec_13 = controlflow_5.Continue.field_0;
+    slice_12 = std_alloc_vec_derefs_VecDerefSlice_deref_Link(&self->heads);
+    result_8 = std_alloc_vec_Vec_from_slice_Link(slice_12);
+    controlflow_7 = core_result_ResultTry_branch_Vec_AllocId(result_8);
+    if (controlflow_7.tag == 0u /* Continue */) {
+        vec_15 = controlflow_7.Continue.field_0;
     } else {
         return core_result_ResultFromResidualErrResidual_from_residual_Table();
     }
-    marks_15 = atlas_search_marks_Marks_copy(&self->marks);
+    vec_6 = vec_15;
+    result_19 = atlas_search_table_copy_marks(&self->marks);
+    controlflow_18 = core_result_ResultTry_branch_Vec_AllocId(result_19);
+    if (controlflow_18.tag == 0u /* Continue */) {
+        vec_21 = controlflow_18.Continue.field_0;
+    } else {
+        result = core_result_ResultFromResidualErrResidual_from_residual_Table();
+        std_alloc_vec_Vec_drop_Link_6(vec_6);
+        return result;
+    }
     result.tag = 0u;
-    result.Ok.field_0.heads = vec_13;
-    result.Ok.field_0.marks = marks_15;
+    result.Ok.field_0.heads = vec_6;
+    result.Ok.field_0.marks = vec_21;
+    result.Ok.field_0.only = self->only;
     result.Ok.field_0.emptied = self->emptied;
     return result;
 }
@@ -21441,6 +21653,44 @@ SMALL void std_alloc_vec_Vec_drop_Slot_3(Vec_Slot given_1) {
     vec_2 = given_1;
     std_alloc_vec_Vec_clear_Slot_3(&vec_2);
     std_alloc_vec_Vec_destroy_empty_Slot_2(vec_2);
+}
+
+/* std_alloc/src/vec/methods.rt */
+SMALL uint64_t std_alloc_vec_Vec_capacity_Slot(const Vec_Slot *self) {
+    return self->cap;
+}
+
+/* Makes room for all slots. The heads stay.
+ * crates/atlas_search/src/table.rt
+ */
+SMALL Result atlas_search_table_Table_grow(atlas_search_Table *self) {
+    ControlFlow controlflow_6;
+    Result result_7;
+    if (std_alloc_vec_Vec_is_empty_Link(&self->heads)) {
+        result_7 = atlas_search_table_store(&self->heads, &self->marks, &self->only);
+        controlflow_6 = core_result_ResultTry_branch(result_7);
+        if (!(controlflow_6.tag == 0u /* Continue */)) {
+            return core_result_ResultFromResidualErrResidual_from_residual();
+        }
+        self->emptied = 2704u;
+    }
+    return new_Result_Ok();
+}
+
+/* std_alloc::vec::Vec::drop */
+SMALL void std_alloc_vec_Vec_drop_Link_5(Vec_Slot given_1) {
+    Vec_Slot vec_2;
+    vec_2 = given_1;
+    std_alloc_vec_Vec_clear_Link_5(&vec_2);
+    std_alloc_vec_Vec_destroy_empty_Link_3(vec_2);
+}
+
+/* std_alloc::vec::Vec::drop */
+SMALL void std_alloc_vec_Vec_drop_Marks_4(Vec_Slot given_1) {
+    Vec_Slot vec_2;
+    vec_2 = given_1;
+    std_alloc_vec_Vec_clear_Marks_4(&vec_2);
+    std_alloc_vec_Vec_destroy_empty_Marks_2(vec_2);
 }
 
 /* The same again.
@@ -21529,6 +21779,27 @@ SMALL void std_alloc_vec_Vec_free_block_Link(Vec_Slot self) {
     vec_2 = self;
     if (vec_2.cap != 0u) {
         std_heap_GlobalAllocator_deallocate((const void *)&nothing, vec_2.ptr, vec_2.cap * sizeof(atlas_search_Link), 4u);
+    }
+}
+
+/* std_alloc/src/vec/ends.rt */
+SMALL void std_alloc_vec_Vec_truncate_Marks(Vec_Slot *self, uint64_t n) {
+    uint64_t n_3;
+    n_3 = std_alloc_vec_Vec_len_Allocation(self);
+    if (n_3 <= n) {
+        return;
+    }
+    std_alloc_vec_Vec_truncate_within_Marks(self, n);
+}
+
+/* Frees the block, and returns the handle.
+ * std_alloc/src/vec/methods.rt
+ */
+SMALL void std_alloc_vec_Vec_free_block_Marks(Vec_Slot self) {
+    Vec_Slot vec_2;
+    vec_2 = self;
+    if (vec_2.cap != 0u) {
+        std_heap_GlobalAllocator_deallocate((const void *)&nothing, vec_2.ptr, vec_2.cap * sizeof(atlas_search_Marks), 8u);
     }
 }
 
@@ -21748,16 +22019,21 @@ SMALL bool atlas_store_store_Store_is_free(const atlas_store_Store *self, atlas_
     return is_3;
 }
 
-/* std_alloc/src/vec/methods.rt */
-SMALL uint64_t std_alloc_vec_Vec_capacity_Slot(const Vec_Slot *self) {
-    return self->cap;
-}
-
-/* std_alloc/src/vec/methods.rt */
-SMALL Result std_alloc_vec_Vec_reserve_Slot(Vec_Slot *self, uint64_t additional) {
-    bool is_3;
-    is_3 = std_alloc_vec_Vec_grow_Slot(self, additional);
-    if (!is_3) {
+/* std_alloc/src/vec/spare.rt */
+SMALL Result std_alloc_vec_Vec_reserve_exact_Slot(Vec_Slot *self, uint64_t additional) {
+    uint64_t n_3;
+    uint64_t n_5;
+    bool is_16;
+    n_3 = std_alloc_vec_Vec_len_Allocation(self);
+    n_5 = std_alloc_vec_Vec_capacity_Slot(self);
+    if (additional <= (n_5 - n_3)) {
+        return new_Result_Ok();
+    }
+    if ((UINT64_C(18446744073709551615) - n_3) < additional) {
+        return new_Result_Err();
+    }
+    is_16 = std_alloc_vec_Vec_move_to_Slot(self, n_3 + additional);
+    if (!is_16) {
         return new_Result_Err();
     }
     return new_Result_Ok();
@@ -21768,6 +22044,16 @@ SMALL Result_AtlasError core_result_ResultFromResidualErrResidual_from_residual_
     atlas_model_AtlasError atlaserror_2;
     atlaserror_2 = atlas_model_error_AtlasErrorFromAllocError_from();
     return new_Result_AtlasError_Err(atlaserror_2);
+}
+
+/* std_alloc/src/vec/methods.rt */
+SMALL Result std_alloc_vec_Vec_reserve_Slot(Vec_Slot *self, uint64_t additional) {
+    bool is_3;
+    is_3 = std_alloc_vec_Vec_grow_Slot(self, additional);
+    if (!is_3) {
+        return new_Result_Err();
+    }
+    return new_Result_Ok();
 }
 
 /* core::convert::AnyFrom::from */
@@ -21856,14 +22142,14 @@ SMALL Option_Found atlas_search_search_pick_Slot(slice_Slot entries, const atlas
     atlas_search_Mask mask_17;
     Option_Link option_21;
     atlas_search_Mask mask_29;
-    atlas_search_Mask mask_31;
+    atlas_search_Mask mask_32;
     place_5 = atlas_search_bands_Scale_place_for(options, size);
     n_6 = core_int_usize_max(place_5.row, place_5.column);
     n_16 = atlas_search_bands_Scale_large(options);
     mask_17 = atlas_search_table_Table_row(table, place_5.row);
     mask_8 = atlas_search_masks_Mask_from(mask_17, place_5.column);
-    mask_31 = atlas_search_table_Table_column(table, place_5.column);
-    mask_9 = atlas_search_masks_Mask_from(mask_31, place_5.row + 1u);
+    mask_32 = atlas_search_table_Table_column(table, place_5.column);
+    mask_9 = atlas_search_masks_Mask_from(mask_32, place_5.row + 1u);
     n_10 = atlas_search_search_least_from(table, place_5, n_6, mask_8);
     best_11 = atlas_search_best_Best_new(size, n_16 <= n_6);
     for (;;) {
@@ -21888,7 +22174,10 @@ SMALL Option_Found atlas_search_search_pick_Slot(slice_Slot entries, const atlas
         }
         n_10 = n_12;
     }
-    return new_Option_Found_None();
+    if (atlas_search_table_Table_is_grown(table)) {
+        return new_Option_Found_None();
+    }
+    return atlas_search_search_pick_few_Slot(entries, table, options, size);
 }
 
 /* One free slot of this size, in its list, and no other slot. Takes no memory.
@@ -22260,6 +22549,19 @@ SMALL void std_alloc_vec_Vec_destroy_empty_Link_3(Vec_Slot self) {
     atlas_allocator_Destruct_none_drop();
 }
 
+/* std_alloc/src/vec/ends.rt */
+SMALL void std_alloc_vec_Vec_clear_Marks_2(Vec_Slot *self) {
+    std_alloc_vec_Vec_truncate_Marks_2(self, 0u);
+}
+
+/* Frees an empty Vec, also where `T` is not `Drop`.
+ * std_alloc/src/vec/methods.rt
+ */
+SMALL void std_alloc_vec_Vec_destroy_empty_Marks_2(Vec_Slot self) {
+    std_alloc_vec_Vec_free_block_Marks(self);
+    atlas_allocator_Destruct_none_drop();
+}
+
 /* Holds what another store holds, in the memory of that one. The turns stay.
  * crates/atlas_store/src/store/start.rt
  */
@@ -22272,6 +22574,7 @@ SMALL void atlas_store_store_Store_replace(atlas_store_Store *self, const atlas_
     table_10 = self->lists;
     self->lists = other.lists;
     std_alloc_vec_Vec_drop_Link_5(table_10.heads);
+    std_alloc_vec_Vec_drop_Marks_4(table_10.marks);
     self->unused = other.unused;
     self->options = other.options;
     self->recent = other.recent;
@@ -22501,18 +22804,39 @@ SMALL uint32_t guillotiere_simple_kept_count(const atlas_search_Rest *rest, cons
 SMALL Result_AtlasError guillotiere_simple_boxes_FreeBoxes_make_room(guillotiere_FreeBoxes *self, uint32_t n) {
     uint64_t n_3;
     uint64_t n_4;
-    ControlFlow controlflow_15;
-    Result result_16;
+    ControlFlow controlflow_21;
+    Result result_22;
+    ControlFlow controlflow_24;
+    ControlFlow controlflow_27;
+    Result result_28;
+    uint64_t n_31;
+    Result result_33;
     n_3 = (uint64_t)self->used + (uint64_t)n;
     n_4 = std_alloc_vec_Vec_len_Allocation(&self->entries);
     if (n_4 < n_3) {
         if ((uint64_t)4261412864u < n_3) {
             return new_Result_AtlasError_Err(new_atlas_model_AtlasError_Memory());
         }
-        result_16 = std_alloc_vec_Vec_reserve_FreeBox(&self->entries, n_3 - n_4);
-        controlflow_15 = core_result_ResultTry_branch(result_16);
-        if (!(controlflow_15.tag == 0u /* Continue */)) {
-            return core_result_ResultFromResidualErrResidual_from_residual_AtlasError();
+        n_31 = std_alloc_vec_Vec_capacity_Slot(&self->entries);
+        if (n_31 < n_3) {
+            if (8u < n_3) {
+                result_22 = atlas_search_table_Table_grow(&self->table);
+                controlflow_21 = core_result_ResultTry_branch(result_22);
+                if (!(controlflow_21.tag == 0u /* Continue */)) {
+                    return core_result_ResultFromResidualErrResidual_from_residual_AtlasError();
+                }
+                result_33 = std_alloc_vec_Vec_reserve_FreeBox(&self->entries, n_3 - n_4);
+                controlflow_24 = core_result_ResultTry_branch(result_33);
+                if (!(controlflow_24.tag == 0u /* Continue */)) {
+                    return core_result_ResultFromResidualErrResidual_from_residual_AtlasError();
+                }
+            } else {
+                result_28 = std_alloc_vec_Vec_reserve_exact_FreeBox(&self->entries, 8u - n_4);
+                controlflow_27 = core_result_ResultTry_branch(result_28);
+                if (!(controlflow_27.tag == 0u /* Continue */)) {
+                    return core_result_ResultFromResidualErrResidual_from_residual_AtlasError();
+                }
+            }
         }
     }
     return new_Result_AtlasError_Ok();
@@ -22551,12 +22875,20 @@ SMALL void std_alloc_vec_Vec_clear_FreeBox_2(Vec_Slot *self) {
  * crates/atlas_search/src/table.rt
  */
 SMALL void atlas_search_table_Table_clear(atlas_search_Table *self) {
-    slice_Link_2 slice_3;
-    atlas_search_Marks marks_7;
-    slice_3 = std_alloc_vec_lends_VecDerefSliceMut_deref_mut_Link(&self->heads);
-    atlas_search_table_blank_marked(slice_3, &self->marks);
-    marks_7 = atlas_search_marks_Marks_none();
-    self->marks = marks_7;
+    slice_Link_2 slice_5;
+    const atlas_search_Marks *at_8;
+    atlas_search_Marks marks_11;
+    atlas_search_Marks *at_12;
+    if (std_alloc_vec_Vec_is_empty_Link(&self->marks)) {
+        self->only = all_array_u16_8(2704u);
+        return;
+    }
+    slice_5 = std_alloc_vec_lends_VecDerefSliceMut_deref_mut_Link(&self->heads);
+    at_8 = std_alloc_vec_derefs_VecIndexUsize_index_Marks(&self->marks, 0u);
+    atlas_search_table_blank_marked(slice_5, at_8);
+    marks_11 = atlas_search_marks_Marks_none();
+    at_12 = std_alloc_vec_lends_VecIndexMutUsize_index_mut_Marks(&self->marks, 0u);
+    *at_12 = marks_11;
     self->emptied = 2704u;
 }
 
@@ -22595,27 +22927,19 @@ SMALL Result_FreeBoxes_AtlasError core_result_ResultFromResidualErrResidual_from
     return result;
 }
 
-/* A table of empty lists.
+/* A table of empty lists, with room for the first eight slots. Takes no memory.
  * crates/atlas_search/src/table.rt
  */
-SMALL Result_Table atlas_search_table_Table_new(void) {
-    Result_Table result;
-    ControlFlow_Vec_AllocId controlflow_5;
-    Result_Vec_AllocId result_6;
-    Vec_Slot vec_9;
-    atlas_search_Marks marks_11;
-    result_6 = std_alloc_vec_Vec_from_elem_Link(new_atlas_search_Link(4294967295u), 2704u);
-    controlflow_5 = core_result_ResultTry_branch_Vec_AllocId(result_6);
-    if (controlflow_5.tag == 0u /* Continue */) {
-        vec_9 = controlflow_5.Continue.field_0;
-    } else {
-        return core_result_ResultFromResidualErrResidual_from_residual_Table();
-    }
-    marks_11 = atlas_search_marks_Marks_none();
-    result.tag = 0u;
-    result.Ok.field_0.heads = vec_9;
-    result.Ok.field_0.marks = marks_11;
-    result.Ok.field_0.emptied = 2704u;
+SMALL atlas_search_Table atlas_search_table_Table_new(void) {
+    atlas_search_Table result;
+    Vec_Slot vec_2;
+    Vec_Slot vec_3;
+    vec_2 = std_alloc_vec_Vec_new_CacheChange_u64();
+    vec_3 = std_alloc_vec_Vec_new_CacheChange_u64();
+    result.heads = vec_2;
+    result.marks = vec_3;
+    result.only = all_array_u16_8(2704u);
+    result.emptied = 2704u;
     return result;
 }
 
@@ -22653,6 +22977,19 @@ SMALL void std_alloc_vec_Vec_clear_Link_4(Vec_Slot *self) {
  */
 SMALL void std_alloc_vec_Vec_destroy_empty_Link_4(Vec_Slot self) {
     std_alloc_vec_Vec_free_block_Link(self);
+    guillotiere_Destruct_none_drop();
+}
+
+/* std_alloc/src/vec/ends.rt */
+SMALL void std_alloc_vec_Vec_clear_Marks_3(Vec_Slot *self) {
+    std_alloc_vec_Vec_truncate_Marks_3(self, 0u);
+}
+
+/* Frees an empty Vec, also where `T` is not `Drop`.
+ * std_alloc/src/vec/methods.rt
+ */
+SMALL void std_alloc_vec_Vec_destroy_empty_Marks_3(Vec_Slot self) {
+    std_alloc_vec_Vec_free_block_Marks(self);
     guillotiere_Destruct_none_drop();
 }
 
@@ -22891,7 +23228,7 @@ SMALL Result_TextureCache_u64_BuildHasherDefault_FoldHasher_FoldHasher_OptionsEr
     result.is.Ok.field_0.rooms = rooms_10;
     result.is.Ok.field_0.entries = entries_12;
     result.is.Ok.field_0.frame = 0u;
-    result.is.Ok.field_0.counts = new_atlas_cache_Counts(0u, 0u, 0u);
+    result.is.Ok.field_0.counts = new_atlas_cache_Counts(0u, 0u, 0u, 0u);
     result.is.Ok.field_0.marks = vec_15;
     return result;
 }
@@ -22933,23 +23270,23 @@ SMALL void std_alloc_vec_Vec_free_block_AtlasAllocator(Vec_Slot self) {
 }
 
 /* std_alloc/src/vec/ends.rt */
-SMALL void std_alloc_vec_Vec_truncate_Refusals(Vec_Slot *self, uint64_t n) {
+SMALL void std_alloc_vec_Vec_truncate_Known(Vec_Slot *self, uint64_t n) {
     uint64_t n_3;
     n_3 = std_alloc_vec_Vec_len_Allocation(self);
     if (n_3 <= n) {
         return;
     }
-    std_alloc_vec_Vec_truncate_within_Refusals(self, n);
+    std_alloc_vec_Vec_truncate_within_Known(self, n);
 }
 
 /* Frees the block, and returns the handle.
  * std_alloc/src/vec/methods.rt
  */
-SMALL void std_alloc_vec_Vec_free_block_Refusals(Vec_Slot self) {
+SMALL void std_alloc_vec_Vec_free_block_Known(Vec_Slot self) {
     Vec_Slot vec_2;
     vec_2 = self;
     if (vec_2.cap != 0u) {
-        std_heap_GlobalAllocator_deallocate((const void *)&nothing, vec_2.ptr, vec_2.cap * sizeof(atlas_cache_Refusals), 4u);
+        std_heap_GlobalAllocator_deallocate((const void *)&nothing, vec_2.ptr, vec_2.cap * sizeof(atlas_cache_Known), 8u);
     }
 }
 
@@ -23251,74 +23588,24 @@ SMALL Option_Size atlas_cache_options_CacheOptions_asked(const atlas_cache_Cache
 }
 
 /* Inserts a key that isn't held, of a size that can stand on a page.
- * crates/atlas_cache/src/cache.rt
+ * crates/atlas_cache/src/cache/inserting.rt
  */
 SMALL Result_Inserted_CacheError atlas_cache_cache_TextureCache_insert_new_u64_BuildHasherDefault_FoldHasher_FoldHasher(atlas_cache_TextureCache_u64_BuildHasherDefault_FoldHasher_FoldHasher *self, uint64_t key, atlas_model_Size size, atlas_model_Size asked, Vec_Slot *changes) {
-    Result_Inserted_CacheError result;
-    uint64_t n_6;
+    bool is_6;
     uint64_t n_7;
-    uint32_t n_8;
-    uint32_t n_15;
-    uint32_t n_18;
-    Option_Place option_20;
-    ControlFlow_ErrResidual_CacheError_Option_Place controlflow_21;
-    Result_Option_Place_CacheError result_22;
-    Option_Place option_24;
-    Option_Inserted option_26;
-    ControlFlow_ErrResidual_CacheError_Option_Inserted controlflow_27;
-    Result_Option_Inserted_CacheError result_28;
-    Option_Inserted option_31;
-    Option_u32 option_32;
-    ControlFlow_ErrResidual_CacheError_Option_u32 controlflow_33;
-    Result_Option_u32_CacheError result_34;
-    Option_u32 option_37;
-    n_6 = 0u;
-    n_18 = atlas_cache_rooms_Rooms_len(&self->rooms);
-    n_7 = (uint64_t)n_18;
-    n_8 = 16u;
-    for (;;) {
-        result_22 = atlas_cache_cache_TextureCache_add_u64_BuildHasherDefault_FoldHasher_FoldHasher(self, key, size, asked, n_6, n_7);
-        controlflow_21 = core_result_ResultTry_branch_Option_Place_CacheError(result_22);
-        if (controlflow_21.tag == 0u /* Continue */) {
-            option_24 = controlflow_21.is.Continue.field_0;
-        } else {
-            return core_result_ResultFromResidualErrResidual_from_residual_Inserted_CacheError_CacheError(controlflow_21.is.Break.field_0);
-        }
-        option_20 = option_24;
-        if (option_20.tag == 1u /* Some */) {
-            return new_Result_Inserted_CacheError_Ok(new_atlas_cache_Inserted_Placed(option_20.Some.field_0));
-        }
-        result_28 = atlas_cache_cache_TextureCache_insert_cleared_u64_BuildHasherDefault_FoldHasher_FoldHasher(self, key, size, asked, n_8,
-                changes);
-        controlflow_27 = core_result_ResultTry_branch_Option_Inserted_CacheError(result_28);
-        if (controlflow_27.tag == 0u /* Continue */) {
-            option_31 = controlflow_27.is.Continue.field_0;
-        } else {
-            return core_result_ResultFromResidualErrResidual_from_residual_Inserted_CacheError_CacheError(controlflow_27.is.Break.field_0);
-        }
-        option_26 = option_31;
-        if (option_26.tag == 1u /* Some */) {
-            return new_Result_Inserted_CacheError_Ok(option_26.Some.field_0);
-        }
-        n_8 = core_int_u32_saturating_sub(n_8, 1u);
-        result_34 = atlas_cache_cache_TextureCache_make_room_u64_BuildHasherDefault_FoldHasher_FoldHasher(self, asked, changes);
-        controlflow_33 = core_result_ResultTry_branch_Option_u32_CacheError(result_34);
-        if (controlflow_33.tag == 0u /* Continue */) {
-            option_37 = controlflow_33.is.Continue.field_0;
-        } else {
-            return core_result_ResultFromResidualErrResidual_from_residual_Inserted_CacheError_CacheError(controlflow_33.is.Break.field_0);
-        }
-        option_32 = option_37;
-        if (option_32.tag == 1u /* Some */) {
-            n_15 = option_32.Some.field_0;
-        } else {
-            atlas_cache_rooms_Rooms_prove_pages(&self->rooms);
-            return new_Result_Inserted_CacheError_Ok(new_atlas_cache_Inserted_FrameFull());
-        }
-        n_6 = (uint64_t)n_15;
-        n_7 = n_6 + 1u;
+    Result_Inserted_CacheError result_8;
+    uint64_t n_9;
+    uint64_t n_16;
+    is_6 = atlas_cache_rooms_Rooms_have_area(&self->rooms, asked);
+    n_7 = self->counts.evictions;
+    result_8 = atlas_cache_cache_TextureCache_insert_uncounted_u64_BuildHasherDefault_FoldHasher_FoldHasher(self, key, size, asked,
+            changes);
+    if (is_6) {
+        n_9 = core_int_u64_saturating_sub(self->counts.evictions, n_7);
+        n_16 = core_int_u64_saturating_add(self->counts.forced, n_9);
+        self->counts.forced = n_16;
     }
-    return result;
+    return result_8;
 }
 
 /* An entry goes, and its rectangle is freed, if it lies on a page.
@@ -23358,7 +23645,8 @@ SMALL void atlas_cache_rooms_Rooms_clear(atlas_cache_Rooms *self) {
     uint64_t n_2;
     uint64_t n_4;
     atlas_allocator_AtlasAllocator *at_7;
-    atlas_cache_Refusals *at_13;
+    atlas_cache_Known known_10;
+    atlas_cache_Known *at_11;
     n_2 = 0u;
     n_4 = std_alloc_vec_Vec_len_Allocation(&self->pages);
     for (;;) {
@@ -23367,8 +23655,9 @@ SMALL void atlas_cache_rooms_Rooms_clear(atlas_cache_Rooms *self) {
         }
         at_7 = std_alloc_vec_lends_VecIndexMutUsize_index_mut_AtlasAllocator(&self->pages, n_2);
         (void)atlas_allocator_atlas_AtlasAllocator_clear(at_7);
-        at_13 = std_alloc_vec_lends_VecIndexMutUsize_index_mut_Refusals(&self->refused, n_2);
-        *at_13 = new_atlas_cache_Refusals(new_atlas_model_Size(0u, 0u), new_atlas_model_Size(0u, 0u));
+        known_10 = atlas_cache_rooms_asking_changed(0u);
+        at_11 = std_alloc_vec_lends_VecIndexMutUsize_index_mut_Known(&self->known, n_2);
+        *at_11 = known_10;
         n_2 = n_2 + 1u;
     }
 }
@@ -23557,7 +23846,7 @@ SMALL Result_Rooms atlas_cache_rooms_Rooms_copy(const atlas_cache_Rooms *self) {
     Vec_Slot vec_16;
     ControlFlow_Vec_AllocId controlflow_17;
     Result_Vec_AllocId result_18;
-    slice_Refusals slice_19;
+    slice_Known slice_19;
     Vec_Slot vec_22;
     (void)std_alloc_vec_Vec_allocator_FreeBox(&self->pages);
     slice_13 = std_alloc_vec_derefs_VecDerefSlice_deref_AtlasAllocator(&self->pages);
@@ -23569,8 +23858,8 @@ SMALL Result_Rooms atlas_cache_rooms_Rooms_copy(const atlas_cache_Rooms *self) {
         return core_result_ResultFromResidualErrResidual_from_residual_Rooms();
     }
     vec_3 = vec_16;
-    slice_19 = std_alloc_vec_derefs_VecDerefSlice_deref_Refusals(&self->refused);
-    result_18 = std_alloc_vec_Vec_from_slice_Refusals(slice_19);
+    slice_19 = std_alloc_vec_derefs_VecDerefSlice_deref_Known(&self->known);
+    result_18 = std_alloc_vec_Vec_from_slice_Known(slice_19);
     controlflow_17 = core_result_ResultTry_branch_Vec_AllocId(result_18);
     if (controlflow_17.tag == 0u /* Continue */) {
         vec_22 = controlflow_17.Continue.field_0;
@@ -23581,7 +23870,7 @@ SMALL Result_Rooms atlas_cache_rooms_Rooms_copy(const atlas_cache_Rooms *self) {
     }
     result.tag = 0u;
     result.Ok.field_0.pages = vec_3;
-    result.Ok.field_0.refused = vec_22;
+    result.Ok.field_0.known = vec_22;
     result.Ok.field_0.options = self->options;
     return result;
 }
@@ -23662,7 +23951,7 @@ SMALL Result_Entries_u64_BuildHasherDefault_FoldHasher_FoldHasher atlas_entries_
         vec_36 = controlflow_31.Continue.field_0;
     } else {
         result = core_result_ResultFromResidualErrResidual_from_residual_Entries_u64_BuildHasherDefault_FoldHasher_FoldHasher();
-        std_alloc_vec_Vec_drop_Link_6(recency_9.links);
+        std_alloc_vec_Vec_drop_Link_7(recency_9.links);
         std_collections_hash_map_HashMap_drop_u64_u32_BuildHasherDefault_FoldHasher_FoldHasher_2(hashmap_6);
         return result;
     }
@@ -23695,11 +23984,11 @@ SMALL void std_alloc_vec_Vec_drop_AtlasAllocator_2(Vec_Slot given_1) {
 }
 
 /* std_alloc::vec::Vec::drop */
-SMALL void std_alloc_vec_Vec_drop_Refusals_2(Vec_Slot given_1) {
+SMALL void std_alloc_vec_Vec_drop_Known_2(Vec_Slot given_1) {
     Vec_Slot vec_2;
     vec_2 = given_1;
-    std_alloc_vec_Vec_clear_Refusals_2(&vec_2);
-    std_alloc_vec_Vec_destroy_empty_Refusals_2(vec_2);
+    std_alloc_vec_Vec_clear_Known_2(&vec_2);
+    std_alloc_vec_Vec_destroy_empty_Known_2(vec_2);
 }
 
 /* core::convert::AnyFrom::from */
@@ -23939,6 +24228,24 @@ SMALL const atlas_allocator_AtlasAllocator *std_alloc_vec_derefs_VecIndexUsize_i
     slice_AtlasAllocator slice_3;
     slice_3 = std_alloc_vec_Vec_as_slice_AtlasAllocator(self);
     return ((atlas_allocator_AtlasAllocator *)slice_3.at + index);
+}
+
+/* std_alloc/src/vec/derefs.rt */
+SMALL const atlas_cache_Known *std_alloc_vec_derefs_VecIndexUsize_index_Known(const Vec_Slot *self, uint64_t index) {
+    slice_Known slice_3;
+    slice_3 = std_alloc_vec_Vec_as_slice_Known(self);
+    return ((atlas_cache_Known *)slice_3.at + index);
+}
+
+/* How many pixels a size has. A side below 0 counts as 0.
+ * crates/atlas_cache/src/rooms/usable.rt
+ */
+SMALL uint64_t atlas_cache_rooms_usable_pixels_of(atlas_model_Size size) {
+    uint64_t n_2;
+    uint64_t n_3;
+    n_2 = atlas_cache_rooms_usable_extent(0u, size.width);
+    n_3 = atlas_cache_rooms_usable_extent(0u, size.height);
+    return n_2 * n_3;
 }
 
 /* A side with the padding at both ends, rounded up to a multiple of the alignment. A side below 0 counts as 0.
@@ -24257,7 +24564,7 @@ SMALL Result_Option_Pages_SheetError atlas_sheet_paging_paged(slice_Size sprites
     }
     vec_8 = vec_34;
     for (;;) {
-        is_35 = std_alloc_vec_Vec_is_empty_Size(&vec_8);
+        is_35 = std_alloc_vec_Vec_is_empty_Link(&vec_8);
         if (!(!is_35)) {
             break;
         }
@@ -24515,7 +24822,7 @@ SMALL Result_Option_Pages_SheetError atlas_sheet_groups_grouped(slice_Size sprit
     }
     sofar_8 = sofar_23;
     for (;;) {
-        is_24 = std_alloc_vec_Vec_is_empty_Size(&sofar_8.left);
+        is_24 = std_alloc_vec_Vec_is_empty_Link(&sofar_8.left);
         if (!(!is_24)) {
             break;
         }
@@ -24733,30 +25040,6 @@ SMALL Result_Vec_AllocId std_alloc_vec_Vec_with_capacity_Slot(uint64_t capacity)
     return new_Result_Vec_AllocId_Ok(vec_3);
 }
 
-/* A table of empty lists.
- * crates/atlas_search/src/table.rt
- */
-SMALL Result_Table atlas_search_table_Table_new_2(void) {
-    Result_Table result;
-    ControlFlow_Vec_AllocId controlflow_5;
-    Result_Vec_AllocId result_6;
-    Vec_Slot vec_9;
-    atlas_search_Marks marks_11;
-    result_6 = std_alloc_vec_Vec_from_elem_Link_2(new_atlas_search_Link(4294967295u), 2704u);
-    controlflow_5 = core_result_ResultTry_branch_Vec_AllocId(result_6);
-    if (controlflow_5.tag == 0u /* Continue */) {
-        vec_9 = controlflow_5.Continue.field_0;
-    } else {
-        return core_result_ResultFromResidualErrResidual_from_residual_Table();
-    }
-    marks_11 = atlas_search_marks_Marks_none();
-    result.tag = 0u;
-    result.Ok.field_0.heads = vec_9;
-    result.Ok.field_0.marks = marks_11;
-    result.Ok.field_0.emptied = 2704u;
-    return result;
-}
-
 /* guillotiere_c::atlas_store++store++Store+Destruct::drop */
 SMALL void guillotiere_c_atlas_store_store_Store_Destruct_drop(const atlas_store_Store given_1) {
     std_alloc_vec_Vec_drop_Slot(given_1.slots);
@@ -24824,7 +25107,7 @@ SMALL Result_Vec_AllocId std_alloc_vec_Vec_from_slice_Link(slice_Link items) {
         result_14 = new_Result_Vec_AllocId_Ok(vec_3);
     } else {
         result_14 = new_Result_Vec_AllocId_Err();
-        std_alloc_vec_Vec_drop_Link_7(vec_3);
+        std_alloc_vec_Vec_drop_Link_8(vec_3);
     }
     return result_14;
 }
@@ -24837,20 +25120,94 @@ SMALL Result_Table core_result_ResultFromResidualErrResidual_from_residual_Table
     return result;
 }
 
-/* A copy of the marks.
- * crates/atlas_search/src/marks.rt
+/* A copy of the marks that are stored, which are one table's at most.
+ * crates/atlas_search/src/table.rt
  */
-SMALL atlas_search_Marks atlas_search_marks_Marks_copy(const atlas_search_Marks *self) {
-    atlas_search_Marks result;
-    result.rows = self->rows;
-    result.columns = self->columns;
-    result.used = self->used;
-    return result;
+SMALL Result_Vec_AllocId atlas_search_table_copy_marks(const Vec_Slot *marks) {
+    Vec_Slot vec_2;
+    ControlFlow_Vec_AllocId controlflow_5;
+    Result_Vec_AllocId result_6;
+    uint64_t n_9;
+    Vec_Slot vec_10;
+    bool is_11;
+    atlas_search_Marks marks_15;
+    const atlas_search_Marks *at_16;
+    (void)std_alloc_vec_Vec_allocator_FreeBox(marks);
+    n_9 = std_alloc_vec_Vec_len_Allocation(marks);
+    result_6 = std_alloc_vec_Vec_with_capacity_Marks(n_9);
+    controlflow_5 = core_result_ResultTry_branch_Vec_AllocId(result_6);
+    if (controlflow_5.tag == 0u /* Continue */) {
+        vec_10 = controlflow_5.Continue.field_0;
+    } else {
+        return core_result_ResultFromResidualErrResidual_from_residual_Vec_CacheChange_u64();
+    }
+    vec_2 = vec_10;
+    is_11 = std_alloc_vec_Vec_is_empty_Link(marks);
+    if (!is_11) {
+        at_16 = std_alloc_vec_derefs_VecIndexUsize_index_Marks(marks, 0u);
+        marks_15 = atlas_search_marks_Marks_copy(at_16);
+        std_alloc_vec_Vec_push_reserved_Marks(&vec_2, marks_15);
+    }
+    return new_Result_Vec_AllocId_Ok(vec_2);
+}
+
+/* std_alloc::vec::Vec::drop */
+SMALL void std_alloc_vec_Vec_drop_Link_6(Vec_Slot given_1) {
+    Vec_Slot vec_2;
+    vec_2 = given_1;
+    std_alloc_vec_Vec_clear_Link_6(&vec_2);
+    std_alloc_vec_Vec_destroy_empty_Link_3(vec_2);
 }
 
 /* std_alloc/src/vec/ends.rt */
 SMALL void std_alloc_vec_Vec_clear_Slot_3(Vec_Slot *self) {
     std_alloc_vec_Vec_truncate_Slot_3(self, 0u);
+}
+
+/* std_alloc/src/vec/methods.rt */
+SMALL bool std_alloc_vec_Vec_is_empty_Link(const Vec_Slot *self) {
+    return self->len == 0u;
+}
+
+/* Stores the heads and marks of the first few slots, where none are stored.
+ * crates/atlas_search/src/table.rt
+ */
+COLD Result atlas_search_table_store(Vec_Slot *heads, Vec_Slot *marks, const array_u16_8 *only) {
+    atlas_search_Marks marks_8;
+    ControlFlow controlflow_9;
+    Result result_10;
+    ControlFlow controlflow_12;
+    Result result_20;
+    result_10 = std_alloc_vec_Vec_reserve_exact_Marks(marks, 1u);
+    controlflow_9 = core_result_ResultTry_branch(result_10);
+    if (!(controlflow_9.tag == 0u /* Continue */)) {
+        return core_result_ResultFromResidualErrResidual_from_residual();
+    }
+    result_20 = std_alloc_vec_Vec_resize_Link(heads, 2704u, new_atlas_search_Link(4294967295u));
+    controlflow_12 = core_result_ResultTry_branch(result_20);
+    if (!(controlflow_12.tag == 0u /* Continue */)) {
+        return core_result_ResultFromResidualErrResidual_from_residual();
+    }
+    marks_8 = atlas_search_marks_Marks_none();
+    atlas_search_table_write_heads(heads, &marks_8, only);
+    std_alloc_vec_Vec_push_reserved_Marks(marks, marks_8);
+    return new_Result_Ok();
+}
+
+/* core/src/result.rt */
+SMALL Result core_result_ResultFromResidualErrResidual_from_residual(void) {
+    core_convert_AnyFrom_from();
+    return new_Result_Err();
+}
+
+/* std_alloc/src/vec/ends.rt */
+SMALL void std_alloc_vec_Vec_clear_Link_5(Vec_Slot *self) {
+    std_alloc_vec_Vec_truncate_Link_5(self, 0u);
+}
+
+/* std_alloc/src/vec/ends.rt */
+SMALL void std_alloc_vec_Vec_clear_Marks_4(Vec_Slot *self) {
+    std_alloc_vec_Vec_truncate_Marks_4(self, 0u);
 }
 
 /* std_alloc/src/vec/ends.rt */
@@ -24874,6 +25231,18 @@ SMALL void std_alloc_vec_Vec_truncate_within_Link(Vec_Slot *self, uint64_t n) {
     tuple_7 = std_alloc_vec_Vec_detach_CacheChange_u64(self, n_3);
     slots_4 = tuple_7.field_0;
     std_alloc_vec_opened_drop_run_Link(&slots_4, n, n_3);
+    std_alloc_vec_Vec_attach_CacheChange_u64(self, slots_4, tuple_7.field_1, n);
+}
+
+/* std_alloc/src/vec/ends.rt */
+SMALL void std_alloc_vec_Vec_truncate_within_Marks(Vec_Slot *self, uint64_t n) {
+    uint64_t n_3;
+    Slots_CacheChange_u64 slots_4;
+    tuple_Slots_CacheChange_u64_Spare_CacheChange_u64 tuple_7;
+    n_3 = std_alloc_vec_Vec_len_Allocation(self);
+    tuple_7 = std_alloc_vec_Vec_detach_CacheChange_u64(self, n_3);
+    slots_4 = tuple_7.field_0;
+    std_alloc_vec_opened_drop_run_Marks(&slots_4, n, n_3);
     std_alloc_vec_Vec_attach_CacheChange_u64(self, slots_4, tuple_7.field_1, n);
 }
 
@@ -25028,6 +25397,30 @@ SMALL void atlas_store_store_Store_stretch_whole(atlas_store_Store *self, atlas_
     atlas_store_slots_extending_stretch_leaf(slice_5, at, size);
 }
 
+/* Moves the elements to a larger block, of capacity `cap`, which may be the one that they are in, and returns whether it could.
+ * std_alloc/src/vec/methods.rt
+ */
+SMALL bool std_alloc_vec_Vec_move_to_Slot(Vec_Slot *self, uint64_t cap) {
+    bool is_4;
+    Result_ptr result_6;
+    Result_ptr result_7;
+    bool is_12;
+    is_4 = std_alloc_room_may_hold_Slot(cap);
+    if (!is_4) {
+        return false;
+    }
+    result_7 = std_alloc_vec_resize_Slot((const void *)&nothing, self->ptr, self->len, self->cap, cap);
+    result_6 = result_7;
+    if (result_6.tag == 0u /* Ok */) {
+        self->ptr = result_6.Ok.field_0;
+        self->cap = cap;
+        is_12 = true;
+    } else {
+        is_12 = false;
+    }
+    return is_12;
+}
+
 /* Makes room for `additional` more elements, and returns whether it could.
  * std_alloc/src/vec/methods.rt
  */
@@ -25140,11 +25533,16 @@ SMALL uint64_t atlas_search_bands_Scale_large(const atlas_search_Scale *self) {
     return self->borders.large;
 }
 
-/* The columns of a row with lists that may have a slot: each that has one.
+/* The columns of a row with lists that may have a slot: each that has one. In a table that hasn't grown, none.
  * crates/atlas_search/src/table.rt
  */
 SMALL atlas_search_Mask atlas_search_table_Table_row(const atlas_search_Table *self, uint64_t i) {
-    return atlas_search_marks_Marks_row(&self->marks, i);
+    const atlas_search_Marks *at_5;
+    if (std_alloc_vec_Vec_is_empty_Link(&self->marks)) {
+        return atlas_search_masks_Mask_none();
+    }
+    at_5 = std_alloc_vec_derefs_VecIndexUsize_index_Marks(&self->marks, 0u);
+    return atlas_search_marks_Marks_row(at_5, i);
 }
 
 /* The numbers of the set from one on.
@@ -25154,11 +25552,16 @@ SMALL atlas_search_Mask atlas_search_masks_Mask_from(atlas_search_Mask self, uin
     return new_atlas_search_Mask((self.bits >> (k & 63u)) << (k & 63u));
 }
 
-/* The rows of a column with lists that may have a slot: each that has one.
+/* The rows of a column with lists that may have a slot: each that has one. In a table that hasn't grown, none.
  * crates/atlas_search/src/table.rt
  */
 SMALL atlas_search_Mask atlas_search_table_Table_column(const atlas_search_Table *self, uint64_t j) {
-    return atlas_search_marks_Marks_column(&self->marks, j);
+    const atlas_search_Marks *at_5;
+    if (std_alloc_vec_Vec_is_empty_Link(&self->marks)) {
+        return atlas_search_masks_Mask_none();
+    }
+    at_5 = std_alloc_vec_derefs_VecIndexUsize_index_Marks(&self->marks, 0u);
+    return atlas_search_marks_Marks_column(at_5, j);
 }
 
 /* A row or column that each list with a slot reaches, of those from a place on, where these are the columns of its row;
@@ -25263,6 +25666,53 @@ SMALL atlas_search_Mask atlas_search_masks_Mask_or(atlas_search_Mask self, atlas
  */
 SMALL bool atlas_search_masks_Mask_is_empty(atlas_search_Mask self) {
     return self.bits == 0u;
+}
+
+/* Whether there is room for all slots. Before that only the first eight come first in lists.
+ * crates/atlas_search/src/table.rt
+ */
+SMALL bool atlas_search_table_Table_is_grown(const atlas_search_Table *self) {
+    bool is_2;
+    is_2 = std_alloc_vec_Vec_is_empty_Link(&self->heads);
+    return !is_2;
+}
+
+/* The free entry that a request of this rounded size takes, where only the first few slots come first in lists.
+ * crates/atlas_search/src/search.rt
+ */
+COLD Option_Found atlas_search_search_pick_few_Slot(slice_Slot entries, const atlas_search_Table *table, const atlas_search_Scale *options,
+        atlas_model_Size size) {
+    atlas_search_Place place_5;
+    bool is_6;
+    uint64_t n_7;
+    uint64_t n_8;
+    atlas_search_Best best_9;
+    atlas_search_Link link_10;
+    atlas_model_Rectangle rectangle_11;
+    uint64_t n_12;
+    uint64_t n_13;
+    Option_Link option_18;
+    place_5 = atlas_search_bands_Scale_place_for(options, size);
+    n_12 = core_int_usize_max(place_5.row, place_5.column);
+    n_13 = atlas_search_bands_Scale_large(options);
+    n_7 = 0u;
+    is_6 = n_13 <= n_12;
+    for (;;) {
+        if (!(n_7 < 52u)) {
+            break;
+        }
+        n_8 = atlas_search_bands_Scale_end_after(options, n_7);
+        best_9 = atlas_search_best_Best_new(size, is_6);
+        atlas_search_search_search_few_Slot(entries, table, n_8, &best_9);
+        option_18 = atlas_search_best_Best_found(&best_9);
+        if (option_18.tag == 1u /* Some */) {
+            link_10 = option_18.Some.field_0;
+            rectangle_11 = atlas_store_slots_entry_SlotEntry_rectangle(((atlas_store_Slot *)entries.at + (uint64_t)link_10.number));
+            return new_Option_Found_Some(new_atlas_search_Found(rectangle_11, link_10));
+        }
+        n_7 = n_8;
+    }
+    return new_Option_Found_None();
 }
 
 /* The one slot of an atlas of this size.
@@ -25566,12 +26016,14 @@ SMALL void std_alloc_vec_Vec_truncate_Link_3(Vec_Slot *self, uint64_t n) {
     std_alloc_vec_Vec_truncate_within_Link_3(self, n);
 }
 
-/* std_alloc::vec::Vec::drop */
-SMALL void std_alloc_vec_Vec_drop_Link_5(Vec_Slot given_1) {
-    Vec_Slot vec_2;
-    vec_2 = given_1;
-    std_alloc_vec_Vec_clear_Link_5(&vec_2);
-    std_alloc_vec_Vec_destroy_empty_Link_3(vec_2);
+/* std_alloc/src/vec/ends.rt */
+SMALL void std_alloc_vec_Vec_truncate_Marks_2(Vec_Slot *self, uint64_t n) {
+    uint64_t n_3;
+    n_3 = std_alloc_vec_Vec_len_Allocation(self);
+    if (n_3 <= n) {
+        return;
+    }
+    std_alloc_vec_Vec_truncate_within_Marks_2(self, n);
 }
 
 /* Whether an array of n values is small enough to allocate.
@@ -25711,14 +26163,14 @@ SMALL Option_Found atlas_search_search_pick_FreeBox(slice_FreeBox entries, const
     atlas_search_Mask mask_17;
     Option_Link option_21;
     atlas_search_Mask mask_29;
-    atlas_search_Mask mask_31;
+    atlas_search_Mask mask_32;
     place_5 = atlas_search_bands_Scale_place_for(options, size);
     n_6 = core_int_usize_max(place_5.row, place_5.column);
     n_16 = atlas_search_bands_Scale_large(options);
     mask_17 = atlas_search_table_Table_row(table, place_5.row);
     mask_8 = atlas_search_masks_Mask_from(mask_17, place_5.column);
-    mask_31 = atlas_search_table_Table_column(table, place_5.column);
-    mask_9 = atlas_search_masks_Mask_from(mask_31, place_5.row + 1u);
+    mask_32 = atlas_search_table_Table_column(table, place_5.column);
+    mask_9 = atlas_search_masks_Mask_from(mask_32, place_5.row + 1u);
     n_10 = atlas_search_search_least_from(table, place_5, n_6, mask_8);
     best_11 = atlas_search_best_Best_new(size, n_16 <= n_6);
     for (;;) {
@@ -25743,7 +26195,10 @@ SMALL Option_Found atlas_search_search_pick_FreeBox(slice_FreeBox entries, const
         }
         n_10 = n_12;
     }
-    return new_Option_Found_None();
+    if (atlas_search_table_Table_is_grown(table)) {
+        return new_Option_Found_None();
+    }
+    return atlas_search_search_pick_few_FreeBox(entries, table, options, size);
 }
 
 /* The part of `chosen` that a request of this size takes: at its `min`.
@@ -25863,6 +26318,26 @@ SMALL Result std_alloc_vec_Vec_reserve_FreeBox(Vec_Slot *self, uint64_t addition
     return new_Result_Ok();
 }
 
+/* std_alloc/src/vec/spare.rt */
+SMALL Result std_alloc_vec_Vec_reserve_exact_FreeBox(Vec_Slot *self, uint64_t additional) {
+    uint64_t n_3;
+    uint64_t n_5;
+    bool is_16;
+    n_3 = std_alloc_vec_Vec_len_Allocation(self);
+    n_5 = std_alloc_vec_Vec_capacity_Slot(self);
+    if (additional <= (n_5 - n_3)) {
+        return new_Result_Ok();
+    }
+    if ((UINT64_C(18446744073709551615) - n_3) < additional) {
+        return new_Result_Err();
+    }
+    is_16 = std_alloc_vec_Vec_move_to_FreeBox(self, n_3 + additional);
+    if (!is_16) {
+        return new_Result_Err();
+    }
+    return new_Result_Ok();
+}
+
 /* atlas_model::options::AllocatorOptionsPartialEq::eq */
 SMALL bool atlas_model_options_AllocatorOptionsPartialEq_eq(const atlas_model_AllocatorOptions *given_1,
         const atlas_model_AllocatorOptions *given_2) {
@@ -25888,6 +26363,13 @@ SMALL slice_Link_2 std_alloc_vec_lends_VecDerefSliceMut_deref_mut_Link(Vec_Slot 
     slice_Link_2 slice_2;
     slice_2 = new_slice_Link_2((atlas_search_Link *)self->ptr, self->len);
     return slice_2;
+}
+
+/* std_alloc/src/vec/derefs.rt */
+SMALL const atlas_search_Marks *std_alloc_vec_derefs_VecIndexUsize_index_Marks(const Vec_Slot *self, uint64_t index) {
+    slice_Marks slice_3;
+    slice_3 = std_alloc_vec_Vec_as_slice_Marks(self);
+    return ((atlas_search_Marks *)slice_3.at + index);
 }
 
 /* All lists are empty from now on, of which only marked ones may have a slot.
@@ -25924,6 +26406,13 @@ SMALL atlas_search_Marks atlas_search_marks_Marks_none(void) {
     return result;
 }
 
+/* std_alloc/src/vec/lends.rt */
+SMALL atlas_search_Marks *std_alloc_vec_lends_VecIndexMutUsize_index_mut_Marks(Vec_Slot *self, uint64_t index) {
+    atlas_search_Marks *at_3;
+    at_3 = ((atlas_search_Marks *)self->ptr + index);
+    return at_3;
+}
+
 /* Takes the first of the unused entries, or else a new one, for which there is room.
  * crates/guillotiere/src/simple/boxes.rt
  */
@@ -25937,7 +26426,7 @@ SMALL atlas_search_Link guillotiere_simple_boxes_FreeBoxes_take(guillotiere_Free
     self->used = self->used + 1u;
     if (link_2.number == 4294967295u) {
         n_8 = std_alloc_vec_Vec_len_Allocation(&self->entries);
-        freebox_12 = guillotiere_simple_boxes_unused_box(new_atlas_search_Link(0u));
+        freebox_12 = guillotiere_simple_boxes_FreeBox_unused_box(new_atlas_search_Link(0u));
         std_alloc_vec_Vec_push_reserved_FreeBox(&self->entries, freebox_12);
         link_7 = new_atlas_search_Link((uint32_t)n_8);
     } else {
@@ -25997,52 +26486,6 @@ SMALL bool std_alloc_vec_Vec_move_to_FreeBox(Vec_Slot *self, uint64_t cap) {
     return is_12;
 }
 
-/* What `vec![in alloc; x; n]` calls. The last element is x itself.
- * std_alloc/src/vec/makes.rt
- */
-SMALL Result_Vec_AllocId std_alloc_vec_Vec_from_elem_Link(atlas_search_Link elem, uint64_t n) {
-    Result_Vec_AllocId result;
-    atlas_search_Link link_4;
-    Vec_Slot vec_5;
-    uint64_t n_8;
-    Result_Vec_AllocId result_11;
-    Vec_Slot vec_13;
-    Result_Link result_17;
-    link_4 = elem;
-    result_11 = std_alloc_vec_Vec_with_capacity_Link_2(n);
-    if (result_11.tag == 0u /* Ok */) {
-        vec_13 = result_11.Ok.field_0;
-    } else {
-        result = new_Result_Vec_AllocId_Err();
-        atlas_search_Destruct_none_drop_Link(link_4);
-        return result;
-    }
-    vec_5 = vec_13;
-    if (n == 0u) {
-        result = new_Result_Vec_AllocId_Ok(vec_5);
-        atlas_search_Destruct_none_drop_Link(link_4);
-        return result;
-    }
-    n_8 = 1u;
-    for (;;) {
-        if (!(n_8 < n)) {
-            break;
-        }
-        result_17 = core_clone_Clone_copy_clone_Link(&link_4);
-        if (result_17.tag == 0u /* Ok */) {
-            std_alloc_vec_Vec_put_Link(&vec_5, result_17.Ok.field_0);
-        } else {
-            result = new_Result_Vec_AllocId_Err();
-            std_alloc_vec_Vec_drop_Link_8(vec_5);
-            atlas_search_Destruct_none_drop_Link(link_4);
-            return result;
-        }
-        n_8 = n_8 + 1u;
-    }
-    std_alloc_vec_Vec_put_Link(&vec_5, link_4);
-    return new_Result_Vec_AllocId_Ok(vec_5);
-}
-
 /* guillotiere::Destruct++none::drop */
 SMALL void guillotiere_Destruct_none_drop(void) {
 }
@@ -26055,6 +26498,16 @@ SMALL void std_alloc_vec_Vec_truncate_Link_4(Vec_Slot *self, uint64_t n) {
         return;
     }
     std_alloc_vec_Vec_truncate_within_Link_4(self, n);
+}
+
+/* std_alloc/src/vec/ends.rt */
+SMALL void std_alloc_vec_Vec_truncate_Marks_3(Vec_Slot *self, uint64_t n) {
+    uint64_t n_3;
+    n_3 = std_alloc_vec_Vec_len_Allocation(self);
+    if (n_3 <= n) {
+        return;
+    }
+    std_alloc_vec_Vec_truncate_within_Marks_3(self, n);
 }
 
 /* atlas_model::geometry::PointPartialEq::eq */
@@ -26284,7 +26737,7 @@ SMALL atlas_cache_Rooms atlas_cache_rooms_Rooms_new(atlas_cache_CacheOptions opt
     vec_3 = std_alloc_vec_Vec_new_CacheChange_u64();
     vec_4 = std_alloc_vec_Vec_new_CacheChange_u64();
     result.pages = vec_3;
-    result.refused = vec_4;
+    result.known = vec_4;
     result.options = options;
     return result;
 }
@@ -26341,14 +26794,14 @@ SMALL void std_alloc_vec_Vec_truncate_within_AtlasAllocator_2(Vec_Slot *self, ui
 }
 
 /* std_alloc/src/vec/ends.rt */
-SMALL void std_alloc_vec_Vec_truncate_within_Refusals(Vec_Slot *self, uint64_t n) {
+SMALL void std_alloc_vec_Vec_truncate_within_Known(Vec_Slot *self, uint64_t n) {
     uint64_t n_3;
     Slots_CacheChange_u64 slots_4;
     tuple_Slots_CacheChange_u64_Spare_CacheChange_u64 tuple_7;
     n_3 = std_alloc_vec_Vec_len_Allocation(self);
     tuple_7 = std_alloc_vec_Vec_detach_CacheChange_u64(self, n_3);
     slots_4 = tuple_7.field_0;
-    std_alloc_vec_opened_drop_run_Refusals(&slots_4, n, n_3);
+    std_alloc_vec_opened_drop_run_Known(&slots_4, n, n_3);
     std_alloc_vec_Vec_attach_CacheChange_u64(self, slots_4, tuple_7.field_1, n);
 }
 
@@ -26671,200 +27124,110 @@ SMALL Option_Size atlas_cache_options_CacheOptions_asked_of(const atlas_cache_Ca
     return new_Option_Size_Some(new_atlas_model_Size(n_3, n_16));
 }
 
-/* Adds a key on the first page that has room for it, which is one of these, if any has; None if none has.
- * crates/atlas_cache/src/cache.rt
+/* Whether some page has as much free area as a request of this size has, in however many parts. A step for each page until then.
+ * crates/atlas_cache/src/rooms/repacking.rt
  */
-PART Result_Option_Place_CacheError atlas_cache_cache_TextureCache_add_u64_BuildHasherDefault_FoldHasher_FoldHasher(atlas_cache_TextureCache_u64_BuildHasherDefault_FoldHasher_FoldHasher *self, uint64_t key, atlas_model_Size size, atlas_model_Size asked, uint64_t from, uint64_t to) {
-    Option_Entry_u64 option_7;
-    atlas_entries_Entry_u64 entry_10;
-    ControlFlow_ErrResidual_CacheError_Option_Entry_u64 controlflow_11;
-    Result_Option_Entry_u64_CacheError result_12;
-    Option_Entry_u64 option_16;
-    atlas_cache_Place place_18;
-    atlas_cache_CacheOptions cacheoptions_22;
-    result_12 = atlas_cache_cache_holding_grant_u64_BuildHasherDefault_FoldHasher_FoldHasher(&self->rooms, &self->entries, key, size,
-            asked, self->frame, from, to);
-    controlflow_11 = core_result_ResultTry_branch_Option_Entry_u64_CacheError(result_12);
-    if (controlflow_11.tag == 0u /* Continue */) {
-        option_16 = controlflow_11.is.Continue.field_0;
-    } else {
-        return core_result_ResultFromResidualErrResidual_from_residual_Option_Place_CacheError_CacheError(controlflow_11.is.Break.field_0);
+SMALL bool atlas_cache_rooms_Rooms_have_area(const atlas_cache_Rooms *self, atlas_model_Size asked) {
+    uint64_t n_3;
+    uint32_t n_4;
+    uint32_t n_5;
+    uint64_t n_7;
+    n_3 = atlas_cache_rooms_usable_pixels_of(asked);
+    n_4 = 0u;
+    n_5 = atlas_cache_rooms_Rooms_len(self);
+    for (;;) {
+        if (!(n_4 < n_5)) {
+            break;
+        }
+        n_7 = atlas_cache_rooms_Rooms_free_area(self, n_4);
+        if (n_3 <= n_7) {
+            return true;
+        }
+        n_4 = n_4 + 1u;
     }
-    option_7 = option_16;
-    if (option_7.tag == 1u /* Some */) {
-        entry_10 = option_7.Some.field_0;
-    } else {
-        return new_Result_Option_Place_CacheError_Ok(new_Option_Place_None());
-    }
-    cacheoptions_22 = atlas_cache_rooms_Rooms_options(&self->rooms);
-    place_18 = atlas_cache_cache_holding_place_of_u64(entry_10, &cacheoptions_22);
-    return new_Result_Option_Place_CacheError_Ok(new_Option_Place_Some(place_18));
+    return false;
 }
 
-/* core/src/result.rt */
-SMALL ControlFlow_ErrResidual_CacheError_Option_Place core_result_ResultTry_branch_Option_Place_CacheError(Result_Option_Place_CacheError self) {
-    ControlFlow_ErrResidual_CacheError_Option_Place controlflow_4;
-    if (self.tag == 0u /* Ok */) {
-        controlflow_4 = new_ControlFlow_ErrResidual_CacheError_Option_Place_Continue(self.is.Ok.field_0);
-    } else {
-        controlflow_4 = new_ControlFlow_ErrResidual_CacheError_Option_Place_Break(new_ErrResidual_CacheError(self.is.Err.field_0));
-    }
-    return controlflow_4;
-}
-
-/* Inserts a key that has room on no page, by the eviction of what lies in one box; None where more may go in the order of use, where
- * a page may still grow or be added, or where memory for the marks of a rehearsal is refused, and then nothing changes.
- * crates/atlas_cache/src/cache.rt
+/* The same, but for the count of forced evictions.
+ * crates/atlas_cache/src/cache/inserting.rt
  */
-SMALL Result_Option_Inserted_CacheError atlas_cache_cache_TextureCache_insert_cleared_u64_BuildHasherDefault_FoldHasher_FoldHasher(atlas_cache_TextureCache_u64_BuildHasherDefault_FoldHasher_FoldHasher *self, uint64_t key, atlas_model_Size size, atlas_model_Size asked, uint32_t left, Vec_Slot *changes) {
-    uint64_t n_10;
-    atlas_cache_Vacated vacated_21;
-    ControlFlow_ErrResidual_CacheError_Vacated controlflow_22;
-    Result_Vacated_CacheError result_23;
-    atlas_cache_Vacated vacated_26;
-    Result_Option_Inserted_CacheError result_27;
-    Option_Place option_31;
-    ControlFlow_ErrResidual_CacheError_Option_Place controlflow_32;
-    Result_Option_Place_CacheError result_33;
-    Option_Place option_36;
-    Result_Option_Inserted_CacheError result_37;
-    bool is_42;
-    atlas_cache_rooms_Rooms_prove_pages(&self->rooms);
-    if (0u < left) {
-        return new_Result_Option_Inserted_CacheError_Ok(new_Option_Inserted_None());
-    }
-    is_42 = atlas_cache_rooms_Rooms_are_full(&self->rooms);
-    if (!is_42) {
-        return new_Result_Option_Inserted_CacheError_Ok(new_Option_Inserted_None());
-    }
-    result_23 = atlas_cache_cache_TextureCache_vacate_u64_BuildHasherDefault_FoldHasher_FoldHasher(self, asked, changes);
-    controlflow_22 = core_result_ResultTry_branch_Vacated_CacheError(result_23);
-    if (controlflow_22.tag == 0u /* Continue */) {
-        vacated_26 = controlflow_22.is.Continue.field_0;
-    } else {
-        return core_result_ResultFromResidualErrResidual_from_residual_Option_Inserted_CacheError_CacheError(controlflow_22.is.Break.field_0);
-    }
-    vacated_21 = vacated_26;
-    if (vacated_21.tag == 2u /* Unmarked */) {
-        result_27 = new_Result_Option_Inserted_CacheError_Ok(new_Option_Inserted_None());
-    } else if (vacated_21.tag == 1u /* Crowded */) {
-        result_27 = new_Result_Option_Inserted_CacheError_Ok(new_Option_Inserted_Some(new_atlas_cache_Inserted_FrameFull()));
-    } else {
-        n_10 = (uint64_t)vacated_21.Room.field_0;
-        result_33 = atlas_cache_cache_TextureCache_add_u64_BuildHasherDefault_FoldHasher_FoldHasher(self, key, size, asked, n_10,
-                n_10 + 1u);
-        controlflow_32 = core_result_ResultTry_branch_Option_Place_CacheError(result_33);
-        if (controlflow_32.tag == 0u /* Continue */) {
-            option_36 = controlflow_32.is.Continue.field_0;
+SMALL Result_Inserted_CacheError atlas_cache_cache_TextureCache_insert_uncounted_u64_BuildHasherDefault_FoldHasher_FoldHasher(atlas_cache_TextureCache_u64_BuildHasherDefault_FoldHasher_FoldHasher *self, uint64_t key, atlas_model_Size size, atlas_model_Size asked, Vec_Slot *changes) {
+    Result_Inserted_CacheError result;
+    uint64_t n_6;
+    uint64_t n_7;
+    uint32_t n_8;
+    uint32_t n_15;
+    uint32_t n_18;
+    Option_Place option_20;
+    ControlFlow_ErrResidual_CacheError_Option_Place controlflow_21;
+    Result_Option_Place_CacheError result_22;
+    Option_Place option_24;
+    Option_Inserted option_26;
+    ControlFlow_ErrResidual_CacheError_Option_Inserted controlflow_27;
+    Result_Option_Inserted_CacheError result_28;
+    Option_Inserted option_31;
+    Option_u32 option_32;
+    ControlFlow_ErrResidual_CacheError_Option_u32 controlflow_33;
+    Result_Option_u32_CacheError result_34;
+    Option_u32 option_37;
+    n_6 = 0u;
+    n_18 = atlas_cache_rooms_Rooms_len(&self->rooms);
+    n_7 = (uint64_t)n_18;
+    n_8 = 16u;
+    for (;;) {
+        result_22 = atlas_cache_cache_TextureCache_add_u64_BuildHasherDefault_FoldHasher_FoldHasher(self, key, size, asked, n_6, n_7);
+        controlflow_21 = core_result_ResultTry_branch_Option_Place_CacheError(result_22);
+        if (controlflow_21.tag == 0u /* Continue */) {
+            option_24 = controlflow_21.is.Continue.field_0;
         } else {
-            return core_result_ResultFromResidualErrResidual_from_residual_Option_Inserted_CacheError_CacheError(controlflow_32.is.Break.field_0);
+            return core_result_ResultFromResidualErrResidual_from_residual_Inserted_CacheError_CacheError(controlflow_21.is.Break.field_0);
         }
-        option_31 = option_36;
-        if (option_31.tag == 1u /* Some */) {
-            result_37 = new_Result_Option_Inserted_CacheError_Ok(new_Option_Inserted_Some(new_atlas_cache_Inserted_Placed(option_31.Some.field_0)));
+        option_20 = option_24;
+        if (option_20.tag == 1u /* Some */) {
+            return new_Result_Inserted_CacheError_Ok(new_atlas_cache_Inserted_Placed(option_20.Some.field_0));
+        }
+        result_28 = atlas_cache_cache_TextureCache_insert_cleared_u64_BuildHasherDefault_FoldHasher_FoldHasher(self, key, size, asked, n_8,
+                changes);
+        controlflow_27 = core_result_ResultTry_branch_Option_Inserted_CacheError(result_28);
+        if (controlflow_27.tag == 0u /* Continue */) {
+            option_31 = controlflow_27.is.Continue.field_0;
         } else {
-            result_37 = new_Result_Option_Inserted_CacheError_Ok(new_Option_Inserted_Some(new_atlas_cache_Inserted_FrameFull()));
+            return core_result_ResultFromResidualErrResidual_from_residual_Inserted_CacheError_CacheError(controlflow_27.is.Break.field_0);
         }
-        result_27 = result_37;
+        option_26 = option_31;
+        if (option_26.tag == 1u /* Some */) {
+            return new_Result_Inserted_CacheError_Ok(option_26.Some.field_0);
+        }
+        n_8 = core_int_u32_saturating_sub(n_8, 1u);
+        result_34 = atlas_cache_cache_TextureCache_make_room_u64_BuildHasherDefault_FoldHasher_FoldHasher(self, asked, changes);
+        controlflow_33 = core_result_ResultTry_branch_Option_u32_CacheError(result_34);
+        if (controlflow_33.tag == 0u /* Continue */) {
+            option_37 = controlflow_33.is.Continue.field_0;
+        } else {
+            return core_result_ResultFromResidualErrResidual_from_residual_Inserted_CacheError_CacheError(controlflow_33.is.Break.field_0);
+        }
+        option_32 = option_37;
+        if (option_32.tag == 1u /* Some */) {
+            n_15 = option_32.Some.field_0;
+        } else {
+            atlas_cache_rooms_Rooms_prove_pages(&self->rooms);
+            return new_Result_Inserted_CacheError_Ok(new_atlas_cache_Inserted_FrameFull());
+        }
+        n_6 = (uint64_t)n_15;
+        n_7 = n_6 + 1u;
     }
-    return result_27;
-}
-
-/* core/src/result.rt */
-SMALL ControlFlow_ErrResidual_CacheError_Option_Inserted core_result_ResultTry_branch_Option_Inserted_CacheError(Result_Option_Inserted_CacheError self) {
-    ControlFlow_ErrResidual_CacheError_Option_Inserted controlflow_4;
-    if (self.tag == 0u /* Ok */) {
-        controlflow_4 = new_ControlFlow_ErrResidual_CacheError_Option_Inserted_Continue(self.is.Ok.field_0);
-    } else {
-        controlflow_4 = new_ControlFlow_ErrResidual_CacheError_Option_Inserted_Break(new_ErrResidual_CacheError(self.is.Err.field_0));
-    }
-    return controlflow_4;
+    return result;
 }
 
 /* core/src/simd/num.rt */
-SMALL uint32_t core_int_u32_saturating_sub(uint32_t self, uint32_t second) {
-    uint32_t n_4;
+SMALL uint64_t core_int_u64_saturating_sub(uint64_t self, uint64_t second) {
+    uint64_t n_4;
     if (second <= self) {
         n_4 = self - second;
     } else {
         n_4 = 0u;
     }
     return n_4;
-}
-
-/* One change for a request that has room on no page: the page that changed; None if nothing can be done.
- * crates/atlas_cache/src/cache.rt
- */
-SMALL Result_Option_u32_CacheError atlas_cache_cache_TextureCache_make_room_u64_BuildHasherDefault_FoldHasher_FoldHasher(atlas_cache_TextureCache_u64_BuildHasherDefault_FoldHasher_FoldHasher *self, atlas_model_Size asked, Vec_Slot *changes) {
-    uint32_t n_8;
-    uint32_t n_12;
-    ControlFlow controlflow_16;
-    Result result_17;
-    Option_tuple_u32_Size option_19;
-    ControlFlow_ErrResidual_CacheError_Option_tuple_u32_Size controlflow_20;
-    Result_Option_tuple_u32_Size_CacheError result_21;
-    Option_tuple_u32_Size option_23;
-    Option_tuple_u32_Size option_28;
-    ControlFlow_ErrResidual_CacheError_Option_tuple_u32_Size controlflow_29;
-    Option_tuple_u32_Size option_31;
-    Option_u32 option_36;
-    Result_Option_tuple_u32_Size_CacheError result_39;
-    (void)asked;
-    atlas_cache_rooms_Rooms_prove_pages(&self->rooms);
-    result_17 = std_alloc_vec_Vec_reserve_CacheChange_u64(changes, 1u);
-    controlflow_16 = core_result_ResultTry_branch(result_17);
-    if (!(controlflow_16.tag == 0u /* Continue */)) {
-        return core_result_ResultFromResidualErrResidual_from_residual_Option_u32_CacheError();
-    }
-    result_21 = atlas_cache_rooms_Rooms_grow_page(&self->rooms);
-    controlflow_20 = core_result_ResultTry_branch_Option_tuple_u32_Size_CacheError(result_21);
-    if (controlflow_20.tag == 0u /* Continue */) {
-        option_23 = controlflow_20.is.Continue.field_0;
-    } else {
-        return core_result_ResultFromResidualErrResidual_from_residual_Option_u32_CacheError_CacheError(controlflow_20.is.Break.field_0);
-    }
-    option_19 = option_23;
-    if (option_19.tag == 1u /* Some */) {
-        n_8 = option_19.Some.field_0.field_0;
-        std_alloc_vec_Vec_push_reserved_CacheChange_u64(changes, new_atlas_cache_CacheChange_u64_PageGrown(n_8,
-                option_19.Some.field_0.field_1));
-        return new_Result_Option_u32_CacheError_Ok(new_Option_u32_Some(n_8));
-    }
-    result_39 = atlas_cache_rooms_Rooms_add_page(&self->rooms);
-    controlflow_29 = core_result_ResultTry_branch_Option_tuple_u32_Size_CacheError(result_39);
-    if (controlflow_29.tag == 0u /* Continue */) {
-        option_31 = controlflow_29.is.Continue.field_0;
-    } else {
-        return core_result_ResultFromResidualErrResidual_from_residual_Option_u32_CacheError_CacheError(controlflow_29.is.Break.field_0);
-    }
-    option_28 = option_31;
-    if (option_28.tag == 1u /* Some */) {
-        n_12 = option_28.Some.field_0.field_0;
-        std_alloc_vec_Vec_push_reserved_CacheChange_u64(changes, new_atlas_cache_CacheChange_u64_PageAdded(n_12,
-                option_28.Some.field_0.field_1));
-        return new_Result_Option_u32_CacheError_Ok(new_Option_u32_Some(n_12));
-    }
-    option_36 = atlas_cache_cache_TextureCache_evict_u64_BuildHasherDefault_FoldHasher_FoldHasher(self, changes);
-    return new_Result_Option_u32_CacheError_Ok(option_36);
-}
-
-/* core/src/result.rt */
-SMALL ControlFlow_ErrResidual_CacheError_Option_u32 core_result_ResultTry_branch_Option_u32_CacheError(Result_Option_u32_CacheError self) {
-    ControlFlow_ErrResidual_CacheError_Option_u32 controlflow_4;
-    if (self.tag == 0u /* Ok */) {
-        controlflow_4 = new_ControlFlow_ErrResidual_CacheError_Option_u32_Continue(self.is.Ok.field_0);
-    } else {
-        controlflow_4 = new_ControlFlow_ErrResidual_CacheError_Option_u32_Break(new_ErrResidual_CacheError(self.is.Err.field_0));
-    }
-    return controlflow_4;
-}
-
-/* States what always holds of the pages as a whole, and does nothing: each has the options of the cache, the greatest limit on slots
- * and a size from `page` to `largest_page`, and there are no more than the options allow.
- * crates/atlas_cache/src/rooms.rt
- */
-SMALL void atlas_cache_rooms_Rooms_prove_pages(const atlas_cache_Rooms *self) {
-    (void)atlas_cache_rooms_Rooms_len(self);
 }
 
 /* An entry goes. Its number belongs to none from now on.
@@ -26885,12 +27248,22 @@ SMALL void atlas_entries_entries_Entries_remove_u64_BuildHasherDefault_FoldHashe
  * crates/atlas_cache/src/rooms.rt
  */
 SMALL void atlas_cache_rooms_Rooms_free(atlas_cache_Rooms *self, uint32_t page, atlas_model_AllocId id) {
-    atlas_allocator_AtlasAllocator *at_5;
-    atlas_cache_Refusals *at_12;
-    at_5 = std_alloc_vec_lends_VecIndexMutUsize_index_mut_AtlasAllocator(&self->pages, (uint64_t)page);
-    (void)atlas_allocator_atlas_AtlasAllocator_deallocate(at_5, id);
-    at_12 = std_alloc_vec_lends_VecIndexMutUsize_index_mut_Refusals(&self->refused, (uint64_t)page);
-    *at_12 = new_atlas_cache_Refusals(new_atlas_model_Size(0u, 0u), new_atlas_model_Size(0u, 0u));
+    uint64_t n_4;
+    uint64_t n_5;
+    const atlas_allocator_AtlasAllocator *at_7;
+    atlas_allocator_AtlasAllocator *at_10;
+    atlas_cache_Known known_13;
+    const atlas_cache_Known *at_14;
+    atlas_cache_Known *at_18;
+    n_4 = (uint64_t)page;
+    at_7 = std_alloc_vec_derefs_VecIndexUsize_index_AtlasAllocator(&self->pages, n_4);
+    n_5 = atlas_cache_rooms_repacking_area_on(at_7, id);
+    at_10 = std_alloc_vec_lends_VecIndexMutUsize_index_mut_AtlasAllocator(&self->pages, n_4);
+    (void)atlas_allocator_atlas_AtlasAllocator_deallocate(at_10, id);
+    at_14 = std_alloc_vec_derefs_VecIndexUsize_index_Known(&self->known, n_4);
+    known_13 = atlas_cache_rooms_asking_changed(at_14->live - n_5);
+    at_18 = std_alloc_vec_lends_VecIndexMutUsize_index_mut_Known(&self->known, n_4);
+    *at_18 = known_13;
 }
 
 /* std_collections/src/hash_map/places.rt */
@@ -26903,7 +27276,7 @@ SMALL void std_collections_hash_map_HashMap_clear_u64_u32_BuildHasherDefault_Fol
  * crates/atlas_entries/src/recency.rt
  */
 SMALL void atlas_entries_recency_Recency_clear(atlas_entries_Recency *self) {
-    std_alloc_vec_Vec_clear_Link_6(&self->links);
+    std_alloc_vec_Vec_clear_Link_7(&self->links);
     self->ends = new_atlas_entries_Link(4294967295u, 4294967295u);
     self->unused = 4294967295u;
     self->reserved = self->reserved + self->count;
@@ -26922,10 +27295,17 @@ SMALL atlas_allocator_AtlasAllocator *std_alloc_vec_lends_VecIndexMutUsize_index
     return at_3;
 }
 
+/* What is known of a page that changed: the area of what is live on it now.
+ * crates/atlas_cache/src/rooms/asking.rt
+ */
+SMALL atlas_cache_Known atlas_cache_rooms_asking_changed(uint64_t live) {
+    return new_atlas_cache_Known(new_atlas_model_Size(0u, 0u), new_atlas_model_Size(0u, 0u), live);
+}
+
 /* std_alloc/src/vec/lends.rt */
-SMALL atlas_cache_Refusals *std_alloc_vec_lends_VecIndexMutUsize_index_mut_Refusals(Vec_Slot *self, uint64_t index) {
-    atlas_cache_Refusals *at_3;
-    at_3 = ((atlas_cache_Refusals *)self->ptr + index);
+SMALL atlas_cache_Known *std_alloc_vec_lends_VecIndexMutUsize_index_mut_Known(Vec_Slot *self, uint64_t index) {
+    atlas_cache_Known *at_3;
+    at_3 = ((atlas_cache_Known *)self->ptr + index);
     return at_3;
 }
 
@@ -27158,13 +27538,18 @@ SMALL Result_Option_ChangeList_CacheError atlas_cache_rooms_Rooms_repack(atlas_c
     Result_ChangeList_CacheError result_28;
     atlas_model_ChangeList changelist_31;
     bool is_35;
-    atlas_allocator_AtlasAllocator atlasallocator_39;
-    atlas_allocator_AtlasAllocator *at_40;
-    atlas_cache_Refusals *at_45;
+    atlas_cache_Known known_39;
+    uint64_t n_40;
+    atlas_cache_Known *at_42;
+    atlas_allocator_AtlasAllocator atlasallocator_44;
+    atlas_allocator_AtlasAllocator *at_45;
     atlas_store_Store store_52;
-    atlas_allocator_AtlasAllocator atlasallocator_60;
-    atlas_store_Store store_61;
-    atlas_store_Store store_71;
+    atlas_search_Table table_54;
+    atlas_allocator_AtlasAllocator atlasallocator_62;
+    atlas_store_Store store_63;
+    atlas_search_Table table_65;
+    atlas_store_Store store_75;
+    atlas_search_Table table_77;
     vec_5 = held;
     result_17 = atlas_cache_rooms_repacking_sort_by_area(&vec_5);
     controlflow_16 = core_result_ResultTry_branch_CacheError(result_17);
@@ -27193,32 +27578,40 @@ SMALL Result_Option_ChangeList_CacheError atlas_cache_rooms_Rooms_repack(atlas_c
         result = core_result_ResultFromResidualErrResidual_from_residual_Option_ChangeList_CacheError_CacheError(controlflow_27.is.Break.field_0);
         store_52 = atlasallocator_11.store;
         std_alloc_vec_Vec_drop_Slot_5(store_52.slots);
-        std_alloc_vec_Vec_drop_Link_9(store_52.lists.heads);
+        table_54 = store_52.lists;
+        std_alloc_vec_Vec_drop_Link_9(table_54.heads);
+        std_alloc_vec_Vec_drop_Marks_5(table_54.marks);
         return result;
     }
     changelist_12 = changelist_31;
     atlas_allocator_atlas_AtlasAllocator_prove_sound(&atlasallocator_11);
     if (whole) {
-        is_35 = std_alloc_vec_Vec_is_empty_Size(&changelist_12.failures);
+        is_35 = std_alloc_vec_Vec_is_empty_Link(&changelist_12.failures);
         if (!is_35) {
             result = new_Result_Option_ChangeList_CacheError_Ok(new_Option_ChangeList_None());
             std_alloc_vec_Vec_drop_Change_3(changelist_12.changes);
             std_alloc_vec_Vec_drop_Allocation_4(changelist_12.failures);
-            store_71 = atlasallocator_11.store;
-            std_alloc_vec_Vec_drop_Slot_5(store_71.slots);
-            std_alloc_vec_Vec_drop_Link_9(store_71.lists.heads);
+            store_75 = atlasallocator_11.store;
+            std_alloc_vec_Vec_drop_Slot_5(store_75.slots);
+            table_77 = store_75.lists;
+            std_alloc_vec_Vec_drop_Link_9(table_77.heads);
+            std_alloc_vec_Vec_drop_Marks_5(table_77.marks);
             return result;
         }
     }
-    atlasallocator_39 = atlasallocator_11;
-    at_40 = std_alloc_vec_lends_VecIndexMutUsize_index_mut_AtlasAllocator(&self->pages, n_8);
-    atlasallocator_60 = *at_40;
-    *at_40 = atlasallocator_39;
-    store_61 = atlasallocator_60.store;
-    std_alloc_vec_Vec_drop_Slot_5(store_61.slots);
-    std_alloc_vec_Vec_drop_Link_9(store_61.lists.heads);
-    at_45 = std_alloc_vec_lends_VecIndexMutUsize_index_mut_Refusals(&self->refused, n_8);
-    *at_45 = new_atlas_cache_Refusals(new_atlas_model_Size(0u, 0u), new_atlas_model_Size(0u, 0u));
+    n_40 = atlas_allocator_atlas_AtlasAllocator_allocated_area(&atlasallocator_11);
+    known_39 = atlas_cache_rooms_asking_changed(n_40);
+    at_42 = std_alloc_vec_lends_VecIndexMutUsize_index_mut_Known(&self->known, n_8);
+    *at_42 = known_39;
+    atlasallocator_44 = atlasallocator_11;
+    at_45 = std_alloc_vec_lends_VecIndexMutUsize_index_mut_AtlasAllocator(&self->pages, n_8);
+    atlasallocator_62 = *at_45;
+    *at_45 = atlasallocator_44;
+    store_63 = atlasallocator_62.store;
+    std_alloc_vec_Vec_drop_Slot_5(store_63.slots);
+    table_65 = store_63.lists;
+    std_alloc_vec_Vec_drop_Link_9(table_65.heads);
+    std_alloc_vec_Vec_drop_Marks_5(table_65.marks);
     return new_Result_Option_ChangeList_CacheError_Ok(new_Option_ChangeList_Some(changelist_12));
 }
 
@@ -27347,21 +27740,21 @@ SMALL Result_Rooms core_result_ResultFromResidualErrResidual_from_residual_Rooms
 }
 
 /* std_alloc/src/vec/derefs.rt */
-SMALL slice_Refusals std_alloc_vec_derefs_VecDerefSlice_deref_Refusals(const Vec_Slot *self) {
-    return std_alloc_vec_Vec_as_slice_Refusals(self);
+SMALL slice_Known std_alloc_vec_derefs_VecDerefSlice_deref_Known(const Vec_Slot *self) {
+    return std_alloc_vec_Vec_as_slice_Known(self);
 }
 
 /* Rust's `to_vec`, where the elements are `Copy`. A stand-in for specialization, beside `from_clones`.
  * std_alloc/src/vec/makes.rt
  */
-SMALL Result_Vec_AllocId std_alloc_vec_Vec_from_slice_Refusals(slice_Refusals items) {
+SMALL Result_Vec_AllocId std_alloc_vec_Vec_from_slice_Known(slice_Known items) {
     Vec_Slot vec_3;
     ControlFlow_Vec_AllocId controlflow_7;
     Result_Vec_AllocId result_8;
     Vec_Slot vec_11;
     Result result_12;
     Result_Vec_AllocId result_14;
-    result_8 = std_alloc_vec_Vec_with_capacity_Refusals(items.len);
+    result_8 = std_alloc_vec_Vec_with_capacity_Known(items.len);
     controlflow_7 = core_result_ResultTry_branch_Vec_AllocId(result_8);
     if (controlflow_7.tag == 0u /* Continue */) {
         vec_11 = controlflow_7.Continue.field_0;
@@ -27369,12 +27762,12 @@ SMALL Result_Vec_AllocId std_alloc_vec_Vec_from_slice_Refusals(slice_Refusals it
         return core_result_ResultFromResidualErrResidual_from_residual_Vec_CacheChange_u64();
     }
     vec_3 = vec_11;
-    result_12 = std_alloc_vec_Vec_extend_from_slice_Refusals(&vec_3, items);
+    result_12 = std_alloc_vec_Vec_extend_from_slice_Known(&vec_3, items);
     if (result_12.tag == 0u /* Ok */) {
         result_14 = new_Result_Vec_AllocId_Ok(vec_3);
     } else {
         result_14 = new_Result_Vec_AllocId_Err();
-        std_alloc_vec_Vec_drop_Refusals_3(vec_3);
+        std_alloc_vec_Vec_drop_Known_3(vec_3);
     }
     return result_14;
 }
@@ -27547,10 +27940,10 @@ SMALL Result_Vec_AllocId std_alloc_vec_Vec_from_slice_Entry_u64(slice_Entry_u64 
 }
 
 /* std_alloc::vec::Vec::drop */
-SMALL void std_alloc_vec_Vec_drop_Link_6(Vec_Slot given_1) {
+SMALL void std_alloc_vec_Vec_drop_Link_7(Vec_Slot given_1) {
     Vec_Slot vec_2;
     vec_2 = given_1;
-    std_alloc_vec_Vec_clear_Link_6(&vec_2);
+    std_alloc_vec_Vec_clear_Link_7(&vec_2);
     std_alloc_vec_Vec_destroy_empty_Link_5(vec_2);
 }
 
@@ -27568,15 +27961,15 @@ SMALL void std_alloc_vec_Vec_destroy_empty_AtlasAllocator_2(Vec_Slot self) {
 }
 
 /* std_alloc/src/vec/ends.rt */
-SMALL void std_alloc_vec_Vec_clear_Refusals_2(Vec_Slot *self) {
-    std_alloc_vec_Vec_truncate_Refusals_2(self, 0u);
+SMALL void std_alloc_vec_Vec_clear_Known_2(Vec_Slot *self) {
+    std_alloc_vec_Vec_truncate_Known_2(self, 0u);
 }
 
 /* Frees an empty Vec, also where `T` is not `Drop`.
  * std_alloc/src/vec/methods.rt
  */
-SMALL void std_alloc_vec_Vec_destroy_empty_Refusals_2(Vec_Slot self) {
-    std_alloc_vec_Vec_free_block_Refusals(self);
+SMALL void std_alloc_vec_Vec_destroy_empty_Known_2(Vec_Slot self) {
+    std_alloc_vec_Vec_free_block_Known(self);
     atlas_cache_Destruct_none_drop();
 }
 
@@ -27756,12 +28149,6 @@ SMALL Result atlas_cache_rooms_Rooms_add_marks(const atlas_cache_Rooms *self, Ve
     return new_Result_Ok();
 }
 
-/* core/src/result.rt */
-SMALL Result core_result_ResultFromResidualErrResidual_from_residual(void) {
-    core_convert_AnyFrom_from();
-    return new_Result_Err();
-}
-
 /* std_alloc/src/vec/lends.rt */
 SMALL Vec_Slot *std_alloc_vec_lends_VecIndexMutUsize_index_mut_Vec_bool(Vec_Slot *self, uint64_t index) {
     Vec_Slot *at_3;
@@ -27787,7 +28174,7 @@ SMALL Result std_alloc_vec_Vec_reserve_bool(Vec_Slot *self, uint64_t additional)
 /* The part of `grow` that asks the allocator, apart so that the test is inlined.
  * std_alloc/src/vec/methods.rt
  */
-SMALL bool std_alloc_vec_Vec_grow_amortized_CacheChange_u64(Vec_Slot *self, uint64_t additional) {
+COLD bool std_alloc_vec_Vec_grow_amortized_CacheChange_u64(Vec_Slot *self, uint64_t additional) {
     uint64_t n_3;
     uint64_t n_8;
     uint64_t n_11;
@@ -27800,6 +28187,24 @@ SMALL bool std_alloc_vec_Vec_grow_amortized_CacheChange_u64(Vec_Slot *self, uint
     n_11 = std_alloc_vec_least_capacity_CacheChange_u64();
     n_12 = std_alloc_vec_grown(n_8, n_3 + additional, n_11);
     return std_alloc_vec_Vec_move_to_CacheChange_u64(self, n_12);
+}
+
+/* std_alloc/src/vec/methods.rt */
+SMALL slice_Known std_alloc_vec_Vec_as_slice_Known(const Vec_Slot *self) {
+    slice_Known slice_2;
+    slice_2 = new_slice_Known((const atlas_cache_Known *)self->ptr, self->len);
+    return slice_2;
+}
+
+/* How far `to` lies beyond `from`, where a position below 0 counts as 0.
+ * crates/atlas_cache/src/rooms/usable.rt
+ */
+SMALL uint64_t atlas_cache_rooms_usable_extent(uint32_t from, uint32_t to) {
+    uint32_t n_3;
+    uint32_t n_5;
+    n_3 = core_int_i32_max(to, 0u);
+    n_5 = core_int_i32_max(from, 0u);
+    return core_int_u64_saturating_sub((uint64_t)(int64_t)(int32_t)n_3, (uint64_t)(int64_t)(int32_t)n_5);
 }
 
 /* core::int::i32::max */
@@ -28317,11 +28722,6 @@ SMALL void std_alloc_vec_Vec_drop_Option_OnPage(Vec_Slot given_1) {
     vec_2 = given_1;
     std_alloc_vec_Vec_clear_Option_OnPage(&vec_2);
     std_alloc_vec_Vec_destroy_empty_Option_OnPage(vec_2);
-}
-
-/* std_alloc/src/vec/methods.rt */
-SMALL bool std_alloc_vec_Vec_is_empty_Size(const Vec_Slot *self) {
-    return self->len == 0u;
 }
 
 /* Where the sprites without a place lie next: in the smallest sheet that takes them all, or in a full one.
@@ -29065,7 +29465,7 @@ SMALL wide_number atlas_sheet_filling_used_area(slice_Option_Rectangle places) {
 /* The numbers of numbered sprites.
  * crates/atlas_sheet/src/sheets.rt
  */
-PART Result_Vec_Size_SheetError atlas_sheet_sheets_numbers_of(slice_tuple_u64_Size order) {
+SMALL Result_Vec_Size_SheetError atlas_sheet_sheets_numbers_of(slice_tuple_u64_Size order) {
     Result_Vec_Size_SheetError result;
     Vec_Slot vec_3;
     ControlFlow_Vec_AllocId controlflow_8;
@@ -29188,79 +29588,10 @@ SMALL void std_alloc_vec_Vec_truncate_within_Option_Placed(Vec_Slot *self, uint6
     std_alloc_vec_Vec_attach_CacheChange_u64(self, slots_4, tuple_7.field_1, n);
 }
 
-/* Moves the elements to a larger block, of capacity `cap`, which may be the one that they are in, and returns whether it could.
- * std_alloc/src/vec/methods.rt
- */
-SMALL bool std_alloc_vec_Vec_move_to_Slot(Vec_Slot *self, uint64_t cap) {
-    bool is_4;
-    Result_ptr result_6;
-    Result_ptr result_7;
-    bool is_12;
-    is_4 = std_alloc_room_may_hold_Slot(cap);
-    if (!is_4) {
-        return false;
-    }
-    result_7 = std_alloc_vec_resize_Slot((const void *)&nothing, self->ptr, self->len, self->cap, cap);
-    result_6 = result_7;
-    if (result_6.tag == 0u /* Ok */) {
-        self->ptr = result_6.Ok.field_0;
-        self->cap = cap;
-        is_12 = true;
-    } else {
-        is_12 = false;
-    }
-    return is_12;
-}
-
-/* What `vec![in alloc; x; n]` calls. The last element is x itself.
- * std_alloc/src/vec/makes.rt
- */
-SMALL Result_Vec_AllocId std_alloc_vec_Vec_from_elem_Link_2(atlas_search_Link elem, uint64_t n) {
-    Result_Vec_AllocId result;
-    atlas_search_Link link_4;
-    Vec_Slot vec_5;
-    uint64_t n_8;
-    Result_Vec_AllocId result_11;
-    Vec_Slot vec_13;
-    Result_Link result_17;
-    link_4 = elem;
-    result_11 = std_alloc_vec_Vec_with_capacity_Link(n);
-    if (result_11.tag == 0u /* Ok */) {
-        vec_13 = result_11.Ok.field_0;
-    } else {
-        result = new_Result_Vec_AllocId_Err();
-        atlas_search_Destruct_none_drop_Link(link_4);
-        return result;
-    }
-    vec_5 = vec_13;
-    if (n == 0u) {
-        result = new_Result_Vec_AllocId_Ok(vec_5);
-        atlas_search_Destruct_none_drop_Link(link_4);
-        return result;
-    }
-    n_8 = 1u;
-    for (;;) {
-        if (!(n_8 < n)) {
-            break;
-        }
-        result_17 = core_clone_Clone_copy_clone_Link(&link_4);
-        if (result_17.tag == 0u /* Ok */) {
-            std_alloc_vec_Vec_put_Link(&vec_5, result_17.Ok.field_0);
-        } else {
-            result = new_Result_Vec_AllocId_Err();
-            std_alloc_vec_Vec_drop_Link_10(vec_5);
-            atlas_search_Destruct_none_drop_Link(link_4);
-            return result;
-        }
-        n_8 = n_8 + 1u;
-    }
-    std_alloc_vec_Vec_put_Link(&vec_5, link_4);
-    return new_Result_Vec_AllocId_Ok(vec_5);
-}
-
 /* guillotiere_c::atlas_search++table++Table+Destruct::drop */
 SMALL void guillotiere_c_atlas_search_table_Table_Destruct_drop(const atlas_search_Table given_1) {
     std_alloc_vec_Vec_drop_Link(given_1.heads);
+    std_alloc_vec_Vec_drop_Marks(given_1.marks);
 }
 
 /* core/src/slots/bulk.rt */
@@ -29314,11 +29645,49 @@ SMALL Result std_alloc_vec_Vec_extend_from_slice_Link(Vec_Slot *self, slice_Link
 }
 
 /* std_alloc::vec::Vec::drop */
-SMALL void std_alloc_vec_Vec_drop_Link_7(Vec_Slot given_1) {
+SMALL void std_alloc_vec_Vec_drop_Link_8(Vec_Slot given_1) {
     Vec_Slot vec_2;
     vec_2 = given_1;
-    std_alloc_vec_Vec_clear_Link_7(&vec_2);
+    std_alloc_vec_Vec_clear_Link_8(&vec_2);
     std_alloc_vec_Vec_destroy_empty_Link_3(vec_2);
+}
+
+/* std_alloc/src/vec/methods.rt */
+SMALL Result_Vec_AllocId std_alloc_vec_Vec_with_capacity_Marks(uint64_t capacity) {
+    Vec_Slot vec_3;
+    bool is_7;
+    vec_3 = std_alloc_vec_Vec_new_CacheChange_u64();
+    if (capacity != 0u) {
+        is_7 = std_alloc_vec_Vec_move_to_Marks(&vec_3, capacity);
+        if (!is_7) {
+            std_alloc_vec_Vec_destroy_empty_Marks_4(vec_3);
+            return new_Result_Vec_AllocId_Err();
+        }
+    }
+    return new_Result_Vec_AllocId_Ok(vec_3);
+}
+
+/* A copy of the marks.
+ * crates/atlas_search/src/marks.rt
+ */
+SMALL atlas_search_Marks atlas_search_marks_Marks_copy(const atlas_search_Marks *self) {
+    atlas_search_Marks result;
+    result.rows = self->rows;
+    result.columns = self->columns;
+    result.used = self->used;
+    return result;
+}
+
+/* A push that cannot fail, since there is spare capacity.
+ * std_alloc/src/vec/methods.rt
+ */
+SMALL void std_alloc_vec_Vec_push_reserved_Marks(Vec_Slot *self, const atlas_search_Marks value) {
+    std_alloc_vec_Vec_put_Marks(self, value);
+}
+
+/* std_alloc/src/vec/ends.rt */
+SMALL void std_alloc_vec_Vec_clear_Link_6(Vec_Slot *self) {
+    std_alloc_vec_Vec_truncate_Link_6(self, 0u);
 }
 
 /* std_alloc/src/vec/ends.rt */
@@ -29329,6 +29698,81 @@ SMALL void std_alloc_vec_Vec_truncate_Slot_3(Vec_Slot *self, uint64_t n) {
         return;
     }
     std_alloc_vec_Vec_truncate_within_Slot_3(self, n);
+}
+
+/* std_alloc/src/vec/spare.rt */
+SMALL Result std_alloc_vec_Vec_reserve_exact_Marks(Vec_Slot *self, uint64_t additional) {
+    uint64_t n_3;
+    uint64_t n_5;
+    bool is_16;
+    n_3 = std_alloc_vec_Vec_len_Allocation(self);
+    n_5 = std_alloc_vec_Vec_capacity_Slot(self);
+    if (additional <= (n_5 - n_3)) {
+        return new_Result_Ok();
+    }
+    if ((UINT64_C(18446744073709551615) - n_3) < additional) {
+        return new_Result_Err();
+    }
+    is_16 = std_alloc_vec_Vec_move_to_Marks(self, n_3 + additional);
+    if (!is_16) {
+        return new_Result_Err();
+    }
+    return new_Result_Ok();
+}
+
+/* Keeps the first n elements, and fills up to n with copies of x.
+ * std_alloc/src/vec/ends.rt
+ */
+SMALL Result std_alloc_vec_Vec_resize_Link(Vec_Slot *self, uint64_t n, atlas_search_Link value) {
+    uint64_t n_4;
+    n_4 = std_alloc_vec_Vec_len_Allocation(self);
+    if (n <= n_4) {
+        std_alloc_vec_Vec_truncate_Link_7(self, n);
+        return new_Result_Ok();
+    }
+    return std_alloc_vec_Vec_extend_with_Link(self, n - n_4, value);
+}
+
+/* Writes the heads of the first few slots over those of empty lists, and marks them.
+ * crates/atlas_search/src/table.rt
+ */
+SMALL void atlas_search_table_write_heads(Vec_Slot *heads, atlas_search_Marks *marks, const array_u16_8 *only) {
+    uint64_t n_4;
+    uint64_t n_5;
+    atlas_search_Link *at_13;
+    n_4 = 8u;
+    for (;;) {
+        if (!(0u < n_4)) {
+            break;
+        }
+        n_4 = n_4 - 1u;
+        n_5 = (uint64_t)*((uint16_t *)(void *)only + n_4);
+        if (n_5 < 2704u) {
+            at_13 = std_alloc_vec_lends_VecIndexMutUsize_index_mut_Link(heads, n_5);
+            *at_13 = new_atlas_search_Link((uint32_t)n_4);
+            atlas_search_marks_Marks_mark(marks, new_atlas_search_Place(n_5 / 52u, n_5 % 52u));
+        }
+    }
+}
+
+/* std_alloc/src/vec/ends.rt */
+SMALL void std_alloc_vec_Vec_truncate_Link_5(Vec_Slot *self, uint64_t n) {
+    uint64_t n_3;
+    n_3 = std_alloc_vec_Vec_len_Allocation(self);
+    if (n_3 <= n) {
+        return;
+    }
+    std_alloc_vec_Vec_truncate_within_Link_5(self, n);
+}
+
+/* std_alloc/src/vec/ends.rt */
+SMALL void std_alloc_vec_Vec_truncate_Marks_4(Vec_Slot *self, uint64_t n) {
+    uint64_t n_3;
+    n_3 = std_alloc_vec_Vec_len_Allocation(self);
+    if (n_3 <= n) {
+        return;
+    }
+    std_alloc_vec_Vec_truncate_within_Marks_4(self, n);
 }
 
 /* Drops the values from `from` up to `to`, in that order.
@@ -29361,6 +29805,23 @@ SMALL void std_alloc_vec_opened_drop_run_Link(Slots_CacheChange_u64 *row, uint64
         }
         link_7 = core_slots_Slots_take_Link(row, n_4);
         core_mem_drop_Link(link_7);
+        n_4 = n_4 + 1u;
+    }
+}
+
+/* Drops the values from `from` up to `to`, in that order.
+ * std_alloc/src/vec/opened.rt
+ */
+SMALL void std_alloc_vec_opened_drop_run_Marks(Slots_CacheChange_u64 *row, uint64_t from, uint64_t to) {
+    uint64_t n_4;
+    atlas_search_Marks marks_7;
+    n_4 = from;
+    for (;;) {
+        if (!(n_4 < to)) {
+            break;
+        }
+        marks_7 = core_slots_Slots_take_Marks(row, n_4);
+        core_mem_drop_Marks(marks_7);
         n_4 = n_4 + 1u;
     }
 }
@@ -29550,10 +30011,49 @@ SMALL void atlas_store_slots_extending_stretch_leaf(slice_Slot_2 slots, atlas_se
     atlas_store_slots_write_node(new_slice_Slot_2(slots.at, slots.len), at, node_4);
 }
 
+/* Whether an array of n values is small enough to allocate.
+ * std_alloc/src/room.rt
+ */
+SMALL bool std_alloc_room_may_hold_Slot(uint64_t n) {
+    uint64_t n_2;
+    n_2 = sizeof(atlas_store_Slot);
+    if (UINT64_C(9223372036854775807) < n) {
+        return false;
+    }
+    if (UINT64_C(9223372036854775807) < n_2) {
+        return false;
+    }
+    if (n_2 == 0u) {
+        return true;
+    }
+    return n <= (UINT64_C(9223372036854775807) / n_2);
+}
+
+/* Makes the buffer at ptr a larger block, for new_cap elements, which keeps its len elements. On `Err` the
+ * buffer is as it was.
+ * std_alloc/src/vec.rt
+ */
+SMALL Result_ptr std_alloc_vec_resize_Slot(const void *alloc, void *ptr, uint64_t len, uint64_t old_cap, uint64_t new_cap) {
+    Result_ptr result_9;
+    Result_ptr result_10;
+    Result_ptr result_12;
+    if (old_cap != 0u) {
+        result_9 = std_heap_GlobalAllocator_grow_Slot(alloc, ptr, len, old_cap, new_cap);
+        return result_9;
+    }
+    result_10 = std_heap_GlobalAllocator_allocate(alloc, new_cap * sizeof(atlas_store_Slot), 4u);
+    if (result_10.tag == 0u /* Ok */) {
+        result_12 = new_Result_ptr_Ok(result_10.Ok.field_0);
+    } else {
+        result_12 = new_Result_ptr_Err();
+    }
+    return result_12;
+}
+
 /* The part of `grow` that asks the allocator, apart so that the test is inlined.
  * std_alloc/src/vec/methods.rt
  */
-SMALL bool std_alloc_vec_Vec_grow_amortized_Slot(Vec_Slot *self, uint64_t additional) {
+COLD bool std_alloc_vec_Vec_grow_amortized_Slot(Vec_Slot *self, uint64_t additional) {
     uint64_t n_3;
     uint64_t n_8;
     uint64_t n_11;
@@ -29649,6 +30149,13 @@ SMALL uint64_t atlas_search_bands_band(uint32_t side, const atlas_model_Allocato
     return (n_3 + n_5) + n_8;
 }
 
+/* The set of no number.
+ * crates/atlas_search/src/masks.rt
+ */
+SMALL atlas_search_Mask atlas_search_masks_Mask_none(void) {
+    return new_atlas_search_Mask(0u);
+}
+
 /* The marked columns of a row.
  * crates/atlas_search/src/marks.rt
  */
@@ -29663,11 +30170,16 @@ SMALL atlas_search_Mask atlas_search_marks_Marks_column(const atlas_search_Marks
     return *((atlas_search_Mask *)(void *)&self->columns + j);
 }
 
-/* The rows with a list that may have a slot: each with one that has.
+/* The rows with a list that may have a slot: each with one that has. In a table that hasn't grown, none.
  * crates/atlas_search/src/table.rt
  */
 SMALL atlas_search_Mask atlas_search_table_Table_used(const atlas_search_Table *self) {
-    return atlas_search_marks_Marks_used(&self->marks);
+    const atlas_search_Marks *at_4;
+    if (std_alloc_vec_Vec_is_empty_Link(&self->marks)) {
+        return atlas_search_masks_Mask_none();
+    }
+    at_4 = std_alloc_vec_derefs_VecIndexUsize_index_Marks(&self->marks, 0u);
+    return atlas_search_marks_Marks_used(at_4);
 }
 
 /* The least number of the set, and 64 if there is none.
@@ -29736,13 +30248,24 @@ SMALL atlas_search_Mask atlas_search_search_rows_with(const atlas_search_Table *
     atlas_search_Mask mask_7;
     mask_4 = atlas_search_masks_Mask_none();
     n_5 = first;
-    for (;;) {
-        if (!(n_5 < end)) {
-            break;
+    if (std_alloc_vec_Vec_is_empty_Link(&table->marks)) {
+        for (;;) {
+            if (!(n_5 < end)) {
+                break;
+            }
+            mask_7 = atlas_search_table_Table_column(table, n_5);
+            mask_4 = atlas_search_masks_Mask_or(mask_4, mask_7);
+            n_5 = n_5 + 1u;
         }
-        mask_7 = atlas_search_table_Table_column(table, n_5);
-        mask_4 = atlas_search_masks_Mask_or(mask_4, mask_7);
-        n_5 = n_5 + 1u;
+    } else {
+        for (;;) {
+            if (!(n_5 < end)) {
+                break;
+            }
+            mask_7 = atlas_search_table_Table_column(table, n_5);
+            mask_4 = atlas_search_masks_Mask_or(mask_4, mask_7);
+            n_5 = n_5 + 1u;
+        }
     }
     return mask_4;
 }
@@ -29770,6 +30293,33 @@ SMALL void atlas_search_search_search_rows_Slot(slice_Slot entries, const atlas_
         } else {
             break;
         }
+    }
+}
+
+/* Shows the lists before a row and a column to a search, where only the first few slots come first in lists.
+ * crates/atlas_search/src/search.rt
+ */
+SMALL void atlas_search_search_search_few_Slot(slice_Slot entries, const atlas_search_Table *table, uint64_t end, atlas_search_Best *best) {
+    uint64_t n_5;
+    uint64_t n_6;
+    uint64_t n_7;
+    uint64_t n_8;
+    uint64_t n_10;
+    atlas_search_Link link_12;
+    n_5 = 0u;
+    for (;;) {
+        if (!(n_5 < 8u)) {
+            break;
+        }
+        n_6 = atlas_search_table_Table_list_of_few(table, n_5);
+        n_7 = n_6 / 52u;
+        n_8 = n_6 % 52u;
+        n_10 = core_int_usize_max(n_7, n_8);
+        if (n_10 < end) {
+            link_12 = atlas_search_table_Table_head(table, new_atlas_search_Place(n_7, n_8));
+            atlas_search_search_show_list_Slot(entries, link_12, best);
+        }
+        n_5 = n_5 + 1u;
     }
 }
 
@@ -29803,7 +30353,7 @@ SMALL bool atlas_allocator_atlas_room_precedes(const atlas_model_Rectangle *one,
 /* The part of `grow` that asks the allocator, apart so that the test is inlined.
  * std_alloc/src/vec/methods.rt
  */
-SMALL bool std_alloc_vec_Vec_grow_amortized_Allocation(Vec_Slot *self, uint64_t additional) {
+COLD bool std_alloc_vec_Vec_grow_amortized_Allocation(Vec_Slot *self, uint64_t additional) {
     uint64_t n_3;
     uint64_t n_8;
     uint64_t n_11;
@@ -29853,7 +30403,7 @@ SMALL void std_alloc_vec_opened_drop_run_Allocation(Slots_CacheChange_u64 *row, 
 /* The part of `grow` that asks the allocator, apart so that the test is inlined.
  * std_alloc/src/vec/methods.rt
  */
-SMALL bool std_alloc_vec_Vec_grow_amortized_Rectangle(Vec_Slot *self, uint64_t additional) {
+COLD bool std_alloc_vec_Vec_grow_amortized_Rectangle(Vec_Slot *self, uint64_t additional) {
     uint64_t n_3;
     uint64_t n_8;
     uint64_t n_11;
@@ -29943,7 +30493,7 @@ SMALL void std_alloc_vec_Vec_truncate_Change_2(Vec_Slot *self, uint64_t n) {
 /* The part of `grow` that asks the allocator, apart so that the test is inlined.
  * std_alloc/src/vec/methods.rt
  */
-SMALL bool std_alloc_vec_Vec_grow_amortized_Change(Vec_Slot *self, uint64_t additional) {
+COLD bool std_alloc_vec_Vec_grow_amortized_Change(Vec_Slot *self, uint64_t additional) {
     uint64_t n_3;
     uint64_t n_8;
     uint64_t n_11;
@@ -30005,8 +30555,15 @@ SMALL void std_alloc_vec_Vec_truncate_within_Link_3(Vec_Slot *self, uint64_t n) 
 }
 
 /* std_alloc/src/vec/ends.rt */
-SMALL void std_alloc_vec_Vec_clear_Link_5(Vec_Slot *self) {
-    std_alloc_vec_Vec_truncate_Link_5(self, 0u);
+SMALL void std_alloc_vec_Vec_truncate_within_Marks_2(Vec_Slot *self, uint64_t n) {
+    uint64_t n_3;
+    Slots_CacheChange_u64 slots_4;
+    tuple_Slots_CacheChange_u64_Spare_CacheChange_u64 tuple_7;
+    n_3 = std_alloc_vec_Vec_len_Allocation(self);
+    tuple_7 = std_alloc_vec_Vec_detach_CacheChange_u64(self, n_3);
+    slots_4 = tuple_7.field_0;
+    std_alloc_vec_opened_drop_run_Marks_2(&slots_4, n, n_3);
+    std_alloc_vec_Vec_attach_CacheChange_u64(self, slots_4, tuple_7.field_1, n);
 }
 
 /* std_heap/src/lib.rt */
@@ -30145,11 +30702,60 @@ SMALL atlas_model_Rectangle guillotiere_simple_boxes_FreeBoxEntry_rectangle(cons
     return self->area;
 }
 
+/* The free entry that a request of this rounded size takes, where only the first few slots come first in lists.
+ * crates/atlas_search/src/search.rt
+ */
+COLD Option_Found atlas_search_search_pick_few_FreeBox(slice_FreeBox entries, const atlas_search_Table *table,
+        const atlas_search_Scale *options, atlas_model_Size size) {
+    atlas_search_Place place_5;
+    bool is_6;
+    uint64_t n_7;
+    uint64_t n_8;
+    atlas_search_Best best_9;
+    atlas_search_Link link_10;
+    atlas_model_Rectangle rectangle_11;
+    uint64_t n_12;
+    uint64_t n_13;
+    Option_Link option_18;
+    place_5 = atlas_search_bands_Scale_place_for(options, size);
+    n_12 = core_int_usize_max(place_5.row, place_5.column);
+    n_13 = atlas_search_bands_Scale_large(options);
+    n_7 = 0u;
+    is_6 = n_13 <= n_12;
+    for (;;) {
+        if (!(n_7 < 52u)) {
+            break;
+        }
+        n_8 = atlas_search_bands_Scale_end_after(options, n_7);
+        best_9 = atlas_search_best_Best_new(size, is_6);
+        atlas_search_search_search_few_FreeBox(entries, table, n_8, &best_9);
+        option_18 = atlas_search_best_Best_found(&best_9);
+        if (option_18.tag == 1u /* Some */) {
+            link_10 = option_18.Some.field_0;
+            rectangle_11 = guillotiere_simple_boxes_FreeBoxEntry_rectangle(((guillotiere_FreeBox *)entries.at + (uint64_t)link_10.number));
+            return new_Option_Found_Some(new_atlas_search_Found(rectangle_11, link_10));
+        }
+        n_7 = n_8;
+    }
+    return new_Option_Found_None();
+}
+
 /* Where a request that lies at `min` ends.
  * crates/atlas_search/src/cut.rt
  */
 SMALL atlas_model_Point atlas_search_cut_corner_of(atlas_model_Rectangle chosen, atlas_model_Size size) {
     return new_atlas_model_Point(chosen.min_.x + size.width, chosen.min_.y + size.height);
+}
+
+/* core/src/simd/num.rt */
+SMALL uint32_t core_int_u32_saturating_sub(uint32_t self, uint32_t second) {
+    uint32_t n_4;
+    if (second <= self) {
+        n_4 = self - second;
+    } else {
+        n_4 = 0u;
+    }
+    return n_4;
 }
 
 /* Takes a box out of its list; its entry is unused from then on.
@@ -30159,7 +30765,7 @@ SMALL void guillotiere_simple_boxes_FreeBoxes_remove(guillotiere_FreeBoxes *self
     guillotiere_FreeBox freebox_6;
     guillotiere_FreeBox *at_8;
     guillotiere_simple_boxes_FreeBoxes_unlist(self, found.at);
-    freebox_6 = guillotiere_simple_boxes_unused_box(self->unused);
+    freebox_6 = guillotiere_simple_boxes_FreeBox_unused_box(self->unused);
     at_8 = std_alloc_vec_lends_VecIndexMutUsize_index_mut_FreeBox(&self->entries, (uint64_t)found.at.number);
     *at_8 = freebox_6;
     self->unused = found.at;
@@ -30254,6 +30860,13 @@ SMALL void std_alloc_vec_Vec_truncate_within_FreeBox_2(Vec_Slot *self, uint64_t 
     std_alloc_vec_Vec_attach_CacheChange_u64(self, slots_4, tuple_7.field_1, n);
 }
 
+/* std_alloc/src/vec/methods.rt */
+SMALL slice_Marks std_alloc_vec_Vec_as_slice_Marks(const Vec_Slot *self) {
+    slice_Marks slice_2;
+    slice_2 = new_slice_Marks((const atlas_search_Marks *)self->ptr, self->len);
+    return slice_2;
+}
+
 /* The rows with a mark.
  * crates/atlas_search/src/marks.rt
  */
@@ -30291,17 +30904,10 @@ SMALL void atlas_search_table_blank_row(slice_Link_2 heads, uint64_t row, atlas_
     }
 }
 
-/* The set of no number.
- * crates/atlas_search/src/masks.rt
- */
-SMALL atlas_search_Mask atlas_search_masks_Mask_none(void) {
-    return new_atlas_search_Mask(0u);
-}
-
 /* An unused entry before this one.
  * crates/guillotiere/src/simple/boxes.rt
  */
-SMALL guillotiere_FreeBox guillotiere_simple_boxes_unused_box(atlas_search_Link next) {
+SMALL guillotiere_FreeBox guillotiere_simple_boxes_FreeBox_unused_box(atlas_search_Link next) {
     atlas_model_Point point_2;
     atlas_search_Link link_3;
     point_2 = atlas_model_geometry_point2(0u, 0u);
@@ -30348,9 +30954,7 @@ SMALL atlas_search_Link atlas_search_bands_Place_tag(atlas_search_Place self) {
  * crates/atlas_search/src/table.rt
  */
 SMALL atlas_search_Link atlas_search_table_Table_head(const atlas_search_Table *self, atlas_search_Place at) {
-    const atlas_search_Link *at_3;
-    at_3 = std_alloc_vec_derefs_VecIndexUsize_index_Link(&self->heads, (52u * at.row) + at.column);
-    return *at_3;
+    return atlas_search_table_Table_first(self, (52u * at.row) + at.column);
 }
 
 /* An entry joins the heap with this top, which hangs below `tag`. `near` is none, or an entry of the heap, below which it
@@ -30377,26 +30981,19 @@ SMALL atlas_search_Link atlas_search_heap_push_FreeBox(slice_FreeBox_2 entries, 
     return atlas_search_heap_sort_in_FreeBox(new_slice_FreeBox_2(entries.at, entries.len), cell_8, tag_, top, at);
 }
 
-/* A slot comes first in a list.
+/* A slot comes first in a list. In a table that hasn't grown it is one of the first eight, and comes first in no other list.
  * crates/atlas_search/src/table.rt
  */
 SMALL void atlas_search_table_Table_raise(atlas_search_Table *self, atlas_search_Place at, atlas_search_Link first) {
     uint64_t n_4;
-    atlas_search_Link link_5;
-    const atlas_search_Link *at_7;
-    atlas_search_Link *at_9;
+    uint64_t n_14;
     n_4 = (52u * at.row) + at.column;
-    at_7 = std_alloc_vec_derefs_VecIndexUsize_index_Link(&self->heads, n_4);
-    link_5 = *at_7;
-    at_9 = std_alloc_vec_lends_VecIndexMutUsize_index_mut_Link(&self->heads, n_4);
-    *at_9 = first;
-    if (link_5.number == 4294967295u) {
-        if (self->emptied != n_4) {
-            atlas_search_marks_Marks_mark(&self->marks, at);
-            goto after_1;
-        }
+    n_14 = std_alloc_vec_Vec_len_Allocation(&self->heads);
+    if (n_4 < n_14) {
+        atlas_search_table_raise_in(&self->heads, &self->marks, self->emptied, at, first);
+    } else {
+        atlas_search_table_set_head_in(&self->only, n_4, first);
     }
-after_1:;
 }
 
 /* Whether an array of n values is small enough to allocate.
@@ -30438,49 +31035,6 @@ SMALL Result_ptr std_alloc_vec_resize_FreeBox(const void *alloc, void *ptr, uint
     return result_12;
 }
 
-/* std_alloc/src/vec/methods.rt */
-SMALL Result_Vec_AllocId std_alloc_vec_Vec_with_capacity_Link_2(uint64_t capacity) {
-    Vec_Slot vec_3;
-    bool is_7;
-    vec_3 = std_alloc_vec_Vec_new_CacheChange_u64();
-    if (capacity != 0u) {
-        is_7 = std_alloc_vec_Vec_move_to_Link(&vec_3, capacity);
-        if (!is_7) {
-            std_alloc_vec_Vec_destroy_empty_Link_4(vec_3);
-            return new_Result_Vec_AllocId_Err();
-        }
-    }
-    return new_Result_Vec_AllocId_Ok(vec_3);
-}
-
-/* atlas_search::Destruct++none::drop */
-SMALL void atlas_search_Destruct_none_drop_Link(atlas_search_Link given_1) {
-    (void)given_1;
-}
-
-/* core::clone::Clone+copy::clone */
-SMALL Result_Link core_clone_Clone_copy_clone_Link(const atlas_search_Link *given_1) {
-    return new_Result_Link_Ok(*given_1);
-}
-
-/* Appends x. There is spare capacity.
- * std_alloc/src/vec/methods.rt
- */
-SMALL void std_alloc_vec_Vec_put_Link(Vec_Slot *self, atlas_search_Link x) {
-    uint64_t n_3;
-    n_3 = self->len;
-    *((atlas_search_Link *)self->ptr + n_3) = x;
-    self->len = n_3 + 1u;
-}
-
-/* std_alloc::vec::Vec::drop */
-SMALL void std_alloc_vec_Vec_drop_Link_8(Vec_Slot given_1) {
-    Vec_Slot vec_2;
-    vec_2 = given_1;
-    std_alloc_vec_Vec_clear_Link_8(&vec_2);
-    std_alloc_vec_Vec_destroy_empty_Link_4(vec_2);
-}
-
 /* std_alloc/src/vec/ends.rt */
 SMALL void std_alloc_vec_Vec_truncate_within_Link_4(Vec_Slot *self, uint64_t n) {
     uint64_t n_3;
@@ -30490,6 +31044,18 @@ SMALL void std_alloc_vec_Vec_truncate_within_Link_4(Vec_Slot *self, uint64_t n) 
     tuple_7 = std_alloc_vec_Vec_detach_CacheChange_u64(self, n_3);
     slots_4 = tuple_7.field_0;
     std_alloc_vec_opened_drop_run_Link_4(&slots_4, n, n_3);
+    std_alloc_vec_Vec_attach_CacheChange_u64(self, slots_4, tuple_7.field_1, n);
+}
+
+/* std_alloc/src/vec/ends.rt */
+SMALL void std_alloc_vec_Vec_truncate_within_Marks_3(Vec_Slot *self, uint64_t n) {
+    uint64_t n_3;
+    Slots_CacheChange_u64 slots_4;
+    tuple_Slots_CacheChange_u64_Spare_CacheChange_u64 tuple_7;
+    n_3 = std_alloc_vec_Vec_len_Allocation(self);
+    tuple_7 = std_alloc_vec_Vec_detach_CacheChange_u64(self, n_3);
+    slots_4 = tuple_7.field_0;
+    std_alloc_vec_opened_drop_run_Marks_3(&slots_4, n, n_3);
     std_alloc_vec_Vec_attach_CacheChange_u64(self, slots_4, tuple_7.field_1, n);
 }
 
@@ -30517,7 +31083,9 @@ SMALL Result_Option_tuple_AtlasAllocator_Allocation_AtlasError atlas_pages_paged
     Option_Allocation option_18;
     Result_Option_tuple_AtlasAllocator_Allocation_AtlasError result_19;
     atlas_store_Store store_24;
-    atlas_store_Store store_32;
+    atlas_search_Table table_27;
+    atlas_store_Store store_35;
+    atlas_search_Table table_37;
     result_12 = atlas_allocator_atlas_AtlasAllocator_with_options(page_size, options);
     controlflow_11 = core_result_ResultTry_branch_AtlasAllocator_AtlasError(result_12);
     if (controlflow_11.tag == 0u /* Continue */) {
@@ -30534,7 +31102,9 @@ SMALL Result_Option_tuple_AtlasAllocator_Allocation_AtlasError atlas_pages_paged
         result = core_result_ResultFromResidualErrResidual_from_residual_Option_tuple_AtlasAllocator_Allocation_AtlasError_AtlasError(controlflow_15.is.Break.field_0);
         store_24 = atlasallocator_5.store;
         std_alloc_vec_Vec_drop_Slot_6(store_24.slots);
-        std_alloc_vec_Vec_drop_Link_11(store_24.lists.heads);
+        table_27 = store_24.lists;
+        std_alloc_vec_Vec_drop_Link_10(table_27.heads);
+        std_alloc_vec_Vec_drop_Marks_6(table_27.marks);
         return result;
     }
     option_14 = option_18;
@@ -30546,9 +31116,11 @@ SMALL Result_Option_tuple_AtlasAllocator_Allocation_AtlasError atlas_pages_paged
     } else {
         result_19.tag = 0u;
         result_19.is.Ok.field_0.tag = 0u;
-        store_32 = atlasallocator_5.store;
-        std_alloc_vec_Vec_drop_Slot_6(store_32.slots);
-        std_alloc_vec_Vec_drop_Link_11(store_32.lists.heads);
+        store_35 = atlasallocator_5.store;
+        std_alloc_vec_Vec_drop_Slot_6(store_35.slots);
+        table_37 = store_35.lists;
+        std_alloc_vec_Vec_drop_Link_10(table_37.heads);
+        std_alloc_vec_Vec_drop_Marks_6(table_37.marks);
     }
     return result_19;
 }
@@ -30709,16 +31281,16 @@ SMALL void std_alloc_vec_opened_drop_run_AtlasAllocator_2(Slots_CacheChange_u64 
 /* Drops the values from `from` up to `to`, in that order.
  * std_alloc/src/vec/opened.rt
  */
-SMALL void std_alloc_vec_opened_drop_run_Refusals(Slots_CacheChange_u64 *row, uint64_t from, uint64_t to) {
+SMALL void std_alloc_vec_opened_drop_run_Known(Slots_CacheChange_u64 *row, uint64_t from, uint64_t to) {
     uint64_t n_4;
-    atlas_cache_Refusals refusals_7;
+    atlas_cache_Known known_7;
     n_4 = from;
     for (;;) {
         if (!(n_4 < to)) {
             break;
         }
-        refusals_7 = core_slots_Slots_take_Refusals(row, n_4);
-        core_mem_drop_Refusals(refusals_7);
+        known_7 = core_slots_Slots_take_Known(row, n_4);
+        core_mem_drop_Known(known_7);
         n_4 = n_4 + 1u;
     }
 }
@@ -30887,7 +31459,7 @@ SMALL void std_alloc_vec_opened_drop_run_CacheChange_u64(Slots_CacheChange_u64 *
 /* guillotiere_c::atlas_cache++rooms++Rooms+Destruct::drop */
 SMALL void guillotiere_c_atlas_cache_rooms_Rooms_Destruct_drop(const atlas_cache_Rooms given_1) {
     std_alloc_vec_Vec_drop_AtlasAllocator(given_1.pages);
-    std_alloc_vec_Vec_drop_Refusals(given_1.refused);
+    std_alloc_vec_Vec_drop_Known(given_1.known);
 }
 
 /* guillotiere_c::atlas_entries++entries++Entries+Destruct::drop */
@@ -31157,290 +31729,189 @@ SMALL Option_u32 atlas_cache_options_asked_side(uint32_t side, uint32_t padding,
     return option_12;
 }
 
-/* A new entry on the first page that has room for it, which is one of these, if any has; None if none has. After an error
- * no rectangle has moved.
- * crates/atlas_cache/src/cache/holding.rt
+/* Adds a key on the first page that has room for it, which is one of these, if any has; None if none has.
+ * crates/atlas_cache/src/cache.rt
  */
-SMALL Result_Option_Entry_u64_CacheError atlas_cache_cache_holding_grant_u64_BuildHasherDefault_FoldHasher_FoldHasher(atlas_cache_Rooms *rooms, atlas_entries_Entries_u64_BuildHasherDefault_FoldHasher_FoldHasher *entries, uint64_t key, atlas_model_Size size, atlas_model_Size asked, uint64_t frame, uint64_t from, uint64_t to) {
-    Result_Option_Entry_u64_CacheError result;
-    uint32_t n_9;
-    atlas_model_Allocation allocation_10;
-    atlas_entries_Entry_u64 entry_13;
-    Option_tuple_u32_Allocation option_16;
-    ControlFlow_ErrResidual_CacheError_Option_tuple_u32_Allocation controlflow_17;
-    Result_Option_tuple_u32_Allocation_CacheError result_18;
-    Option_tuple_u32_Allocation option_20;
-    Result_u32_CacheError result_24;
-    Result_Option_Entry_u64_CacheError result_27;
-    result_18 = atlas_cache_rooms_Rooms_place_among(rooms, from, to, asked);
-    controlflow_17 = core_result_ResultTry_branch_Option_tuple_u32_Allocation_CacheError(result_18);
-    if (controlflow_17.tag == 0u /* Continue */) {
-        option_20 = controlflow_17.is.Continue.field_0;
+PART Result_Option_Place_CacheError atlas_cache_cache_TextureCache_add_u64_BuildHasherDefault_FoldHasher_FoldHasher(atlas_cache_TextureCache_u64_BuildHasherDefault_FoldHasher_FoldHasher *self, uint64_t key, atlas_model_Size size, atlas_model_Size asked, uint64_t from, uint64_t to) {
+    Option_Entry_u64 option_7;
+    atlas_entries_Entry_u64 entry_10;
+    ControlFlow_ErrResidual_CacheError_Option_Entry_u64 controlflow_11;
+    Result_Option_Entry_u64_CacheError result_12;
+    Option_Entry_u64 option_16;
+    atlas_cache_Place place_18;
+    atlas_cache_CacheOptions cacheoptions_22;
+    result_12 = atlas_cache_cache_holding_grant_u64_BuildHasherDefault_FoldHasher_FoldHasher(&self->rooms, &self->entries, key, size,
+            asked, self->frame, from, to);
+    controlflow_11 = core_result_ResultTry_branch_Option_Entry_u64_CacheError(result_12);
+    if (controlflow_11.tag == 0u /* Continue */) {
+        option_16 = controlflow_11.is.Continue.field_0;
     } else {
-        return core_result_ResultFromResidualErrResidual_from_residual_Option_Entry_u64_CacheError_CacheError(controlflow_17.is.Break.field_0);
+        return core_result_ResultFromResidualErrResidual_from_residual_Option_Place_CacheError_CacheError(controlflow_11.is.Break.field_0);
     }
-    option_16 = option_20;
-    if (option_16.tag == 1u /* Some */) {
-        n_9 = option_16.Some.field_0.field_0;
-        allocation_10 = option_16.Some.field_0.field_1;
+    option_7 = option_16;
+    if (option_7.tag == 1u /* Some */) {
+        entry_10 = option_7.Some.field_0;
     } else {
-        result.tag = 0u;
-        result.is.Ok.field_0 = new_Option_Entry_u64_None();
-        return result;
+        return new_Result_Option_Place_CacheError_Ok(new_Option_Place_None());
     }
-    entry_13 = new_atlas_entries_Entry_u64(key, size, n_9, allocation_10.id, allocation_10.rectangle, 0u, frame);
-    result_24 = atlas_entries_entries_Entries_push_u64_BuildHasherDefault_FoldHasher_FoldHasher(entries, entry_13);
-    if (result_24.tag == 0u /* Ok */) {
-        result_27.tag = 0u;
-        result_27.is.Ok.field_0 = new_Option_Entry_u64_Some(new_atlas_entries_Entry_u64(entry_13.key, entry_13.size, entry_13.page,
-                entry_13.id, entry_13.rectangle, result_24.is.Ok.field_0, entry_13.frame));
+    cacheoptions_22 = atlas_cache_rooms_Rooms_options(&self->rooms);
+    place_18 = atlas_cache_cache_holding_place_of_u64(entry_10, &cacheoptions_22);
+    return new_Result_Option_Place_CacheError_Ok(new_Option_Place_Some(place_18));
+}
+
+/* core/src/result.rt */
+SMALL ControlFlow_ErrResidual_CacheError_Option_Place core_result_ResultTry_branch_Option_Place_CacheError(Result_Option_Place_CacheError self) {
+    ControlFlow_ErrResidual_CacheError_Option_Place controlflow_4;
+    if (self.tag == 0u /* Ok */) {
+        controlflow_4 = new_ControlFlow_ErrResidual_CacheError_Option_Place_Continue(self.is.Ok.field_0);
     } else {
-        atlas_cache_rooms_Rooms_free(rooms, n_9, allocation_10.id);
-        result_27.tag = 1u;
-        result_27.is.Err.field_0 = result_24.is.Err.field_0;
+        controlflow_4 = new_ControlFlow_ErrResidual_CacheError_Option_Place_Break(new_ErrResidual_CacheError(self.is.Err.field_0));
+    }
+    return controlflow_4;
+}
+
+/* Inserts a key that has room on no page, by the eviction of what lies in one box; None where more may go in the order of use, where
+ * a page may still grow or be added, or where memory for the marks of a rehearsal is refused, and then nothing changes.
+ * crates/atlas_cache/src/cache/inserting.rt
+ */
+SMALL Result_Option_Inserted_CacheError atlas_cache_cache_TextureCache_insert_cleared_u64_BuildHasherDefault_FoldHasher_FoldHasher(atlas_cache_TextureCache_u64_BuildHasherDefault_FoldHasher_FoldHasher *self, uint64_t key, atlas_model_Size size, atlas_model_Size asked, uint32_t left, Vec_Slot *changes) {
+    uint64_t n_10;
+    atlas_cache_Vacated vacated_21;
+    ControlFlow_ErrResidual_CacheError_Vacated controlflow_22;
+    Result_Vacated_CacheError result_23;
+    atlas_cache_Vacated vacated_26;
+    Result_Option_Inserted_CacheError result_27;
+    Option_Place option_31;
+    ControlFlow_ErrResidual_CacheError_Option_Place controlflow_32;
+    Result_Option_Place_CacheError result_33;
+    Option_Place option_36;
+    Result_Option_Inserted_CacheError result_37;
+    bool is_42;
+    atlas_cache_rooms_Rooms_prove_pages(&self->rooms);
+    if (0u < left) {
+        return new_Result_Option_Inserted_CacheError_Ok(new_Option_Inserted_None());
+    }
+    is_42 = atlas_cache_rooms_Rooms_are_full(&self->rooms);
+    if (!is_42) {
+        return new_Result_Option_Inserted_CacheError_Ok(new_Option_Inserted_None());
+    }
+    result_23 = atlas_cache_cache_TextureCache_vacate_u64_BuildHasherDefault_FoldHasher_FoldHasher(self, asked, changes);
+    controlflow_22 = core_result_ResultTry_branch_Vacated_CacheError(result_23);
+    if (controlflow_22.tag == 0u /* Continue */) {
+        vacated_26 = controlflow_22.is.Continue.field_0;
+    } else {
+        return core_result_ResultFromResidualErrResidual_from_residual_Option_Inserted_CacheError_CacheError(controlflow_22.is.Break.field_0);
+    }
+    vacated_21 = vacated_26;
+    if (vacated_21.tag == 2u /* Unmarked */) {
+        result_27 = new_Result_Option_Inserted_CacheError_Ok(new_Option_Inserted_None());
+    } else if (vacated_21.tag == 1u /* Crowded */) {
+        result_27 = new_Result_Option_Inserted_CacheError_Ok(new_Option_Inserted_Some(new_atlas_cache_Inserted_FrameFull()));
+    } else {
+        n_10 = (uint64_t)vacated_21.Room.field_0;
+        result_33 = atlas_cache_cache_TextureCache_add_u64_BuildHasherDefault_FoldHasher_FoldHasher(self, key, size, asked, n_10,
+                n_10 + 1u);
+        controlflow_32 = core_result_ResultTry_branch_Option_Place_CacheError(result_33);
+        if (controlflow_32.tag == 0u /* Continue */) {
+            option_36 = controlflow_32.is.Continue.field_0;
+        } else {
+            return core_result_ResultFromResidualErrResidual_from_residual_Option_Inserted_CacheError_CacheError(controlflow_32.is.Break.field_0);
+        }
+        option_31 = option_36;
+        if (option_31.tag == 1u /* Some */) {
+            result_37 = new_Result_Option_Inserted_CacheError_Ok(new_Option_Inserted_Some(new_atlas_cache_Inserted_Placed(option_31.Some.field_0)));
+        } else {
+            result_37 = new_Result_Option_Inserted_CacheError_Ok(new_Option_Inserted_Some(new_atlas_cache_Inserted_FrameFull()));
+        }
+        result_27 = result_37;
     }
     return result_27;
 }
 
 /* core/src/result.rt */
-SMALL ControlFlow_ErrResidual_CacheError_Option_Entry_u64 core_result_ResultTry_branch_Option_Entry_u64_CacheError(const Result_Option_Entry_u64_CacheError self) {
-    ControlFlow_ErrResidual_CacheError_Option_Entry_u64 controlflow_4;
+SMALL ControlFlow_ErrResidual_CacheError_Option_Inserted core_result_ResultTry_branch_Option_Inserted_CacheError(Result_Option_Inserted_CacheError self) {
+    ControlFlow_ErrResidual_CacheError_Option_Inserted controlflow_4;
     if (self.tag == 0u /* Ok */) {
-        controlflow_4.tag = 0u;
-        controlflow_4.is.Continue.field_0 = self.is.Ok.field_0;
+        controlflow_4 = new_ControlFlow_ErrResidual_CacheError_Option_Inserted_Continue(self.is.Ok.field_0);
     } else {
-        controlflow_4.tag = 1u;
-        controlflow_4.is.Break.field_0 = new_ErrResidual_CacheError(self.is.Err.field_0);
+        controlflow_4 = new_ControlFlow_ErrResidual_CacheError_Option_Inserted_Break(new_ErrResidual_CacheError(self.is.Err.field_0));
     }
     return controlflow_4;
 }
 
-/* core/src/result.rt */
-SMALL Result_Option_Place_CacheError core_result_ResultFromResidualErrResidual_from_residual_Option_Place_CacheError_CacheError(ErrResidual_CacheError residual) {
-    atlas_entries_CacheError cacheerror_2;
-    cacheerror_2 = core_convert_AnyFrom_from_CacheError(residual.field_0);
-    return new_Result_Option_Place_CacheError_Err(cacheerror_2);
-}
-
-/* Whether there are as many pages as the options allow, each at its largest.
- * crates/atlas_cache/src/rooms.rt
- */
-SMALL bool atlas_cache_rooms_Rooms_are_full(const atlas_cache_Rooms *self) {
-    bool is_2;
-    uint32_t n_3;
-    slice_AtlasAllocator slice_6;
-    Option_tuple_u64_Size option_10;
-    n_3 = atlas_cache_rooms_Rooms_len(self);
-    is_2 = n_3 == self->options.pages;
-    if (is_2) {
-        slice_6 = std_alloc_vec_derefs_VecDerefSlice_deref_AtlasAllocator(&self->pages);
-        option_10 = atlas_cache_rooms_first_to_grow(slice_6, self->options.largest_page);
-        is_2 = core_option_Option_is_none_tuple_u64_Size(&option_10);
-    }
-    return is_2;
-}
-
-/* As if entries that this frame didn't use went in the order of use until a request had room on a page: of these those go that lie
- * in the box that it fits. `Memory`, before anything changes, if room for their changes is refused.
- * crates/atlas_cache/src/cache/vacating.rt
- */
-SMALL Result_Vacated_CacheError atlas_cache_cache_TextureCache_vacate_u64_BuildHasherDefault_FoldHasher_FoldHasher(atlas_cache_TextureCache_u64_BuildHasherDefault_FoldHasher_FoldHasher *self, atlas_model_Size asked, Vec_Slot *changes) {
-    atlas_entries_Entry_u64 entry_4;
-    Result_Option_Vacancy result_5;
-    Option_Vacancy option_6;
-    atlas_cache_Vacancy vacancy_7;
-    Option_tuple_u32_Entry_u64 option_12;
-    ControlFlow controlflow_24;
-    Result result_25;
-    uint64_t n_27;
-    atlas_cache_rooms_Rooms_prove_pages(&self->rooms);
-    option_12 = atlas_cache_cache_holding_oldest_lying_u64_BuildHasherDefault_FoldHasher_FoldHasher(&self->entries);
-    if (option_12.tag == 1u /* Some */) {
-        entry_4 = option_12.Some.field_0.field_1;
-    } else {
-        return new_Result_Vacated_CacheError_Ok(new_atlas_cache_Vacated_Crowded());
-    }
-    if (entry_4.frame == self->frame) {
-        return new_Result_Vacated_CacheError_Ok(new_atlas_cache_Vacated_Crowded());
-    }
-    result_5 = atlas_cache_cache_vacating_find_vacancy_u64_BuildHasherDefault_FoldHasher_FoldHasher(&self->rooms, &self->entries,
-            &self->marks, self->frame, asked);
-    if (result_5.tag == 0u /* Ok */) {
-        option_6 = result_5.Ok.field_0;
-    } else {
-        return new_Result_Vacated_CacheError_Ok(new_atlas_cache_Vacated_Unmarked());
-    }
-    if (option_6.tag == 1u /* Some */) {
-        vacancy_7 = option_6.Some.field_0;
-    } else {
-        return new_Result_Vacated_CacheError_Ok(new_atlas_cache_Vacated_Crowded());
-    }
-    n_27 = atlas_cache_cache_vacating_inside_u64_BuildHasherDefault_FoldHasher_FoldHasher(&self->entries, vacancy_7.count, vacancy_7.page,
-            &vacancy_7.area);
-    result_25 = std_alloc_vec_Vec_reserve_CacheChange_u64(changes, n_27);
-    controlflow_24 = core_result_ResultTry_branch(result_25);
-    if (!(controlflow_24.tag == 0u /* Continue */)) {
-        return core_result_ResultFromResidualErrResidual_from_residual_Vacated_CacheError();
-    }
-    atlas_cache_cache_vacating_clear_u64_BuildHasherDefault_FoldHasher_FoldHasher(&self->rooms, &self->entries, &self->counts, self->frame,
-            &vacancy_7, changes);
-    return new_Result_Vacated_CacheError_Ok(new_atlas_cache_Vacated_Room(vacancy_7.page));
-}
-
-/* core/src/result.rt */
-SMALL ControlFlow_ErrResidual_CacheError_Vacated core_result_ResultTry_branch_Vacated_CacheError(Result_Vacated_CacheError self) {
-    ControlFlow_ErrResidual_CacheError_Vacated controlflow_4;
-    if (self.tag == 0u /* Ok */) {
-        controlflow_4 = new_ControlFlow_ErrResidual_CacheError_Vacated_Continue(self.is.Ok.field_0);
-    } else {
-        controlflow_4 = new_ControlFlow_ErrResidual_CacheError_Vacated_Break(new_ErrResidual_CacheError(self.is.Err.field_0));
-    }
-    return controlflow_4;
-}
-
-/* core/src/result.rt */
-SMALL Result_Option_Inserted_CacheError core_result_ResultFromResidualErrResidual_from_residual_Option_Inserted_CacheError_CacheError(ErrResidual_CacheError residual) {
-    atlas_entries_CacheError cacheerror_2;
-    cacheerror_2 = core_convert_AnyFrom_from_CacheError(residual.field_0);
-    return new_Result_Option_Inserted_CacheError_Err(cacheerror_2);
-}
-
-/* core/src/result.rt */
-SMALL Result_Option_u32_CacheError core_result_ResultFromResidualErrResidual_from_residual_Option_u32_CacheError(void) {
-    atlas_entries_CacheError cacheerror_2;
-    cacheerror_2 = atlas_entries_error_CacheErrorFromAllocError_from();
-    return new_Result_Option_u32_CacheError_Err(cacheerror_2);
-}
-
-/* The first page that isn't at its largest grows: the page, and its size from now on, in pixels. Its smaller side,
- * the width if they are equal, is doubled, but no further than the largest page's, or the other side if that one
- * is at its largest. None exactly if each page is at its largest. No rectangle moves, and at most 3 more slots of the page are
- * used. `Slots` if that page has too few of them, `Memory` if memory is refused. Unless a page grows, nothing changes.
- * crates/atlas_cache/src/rooms.rt
- */
-SMALL Result_Option_tuple_u32_Size_CacheError atlas_cache_rooms_Rooms_grow_page(atlas_cache_Rooms *self) {
-    uint64_t n_2;
-    atlas_model_Size size_3;
-    atlas_model_Size size_4;
-    Option_tuple_u64_Size option_6;
-    slice_AtlasAllocator slice_7;
-    Result_AtlasError result_12;
-    atlas_allocator_AtlasAllocator *at_13;
-    atlas_entries_CacheError cacheerror_16;
-    atlas_cache_Refusals *at_19;
-    uint32_t n_21;
-    slice_7 = std_alloc_vec_derefs_VecDerefSlice_deref_AtlasAllocator(&self->pages);
-    option_6 = atlas_cache_rooms_first_to_grow(slice_7, self->options.largest_page);
-    if (option_6.tag == 1u /* Some */) {
-        n_2 = option_6.Some.field_0.field_0;
-        size_3 = option_6.Some.field_0.field_1;
-    } else {
-        return new_Result_Option_tuple_u32_Size_CacheError_Ok(new_Option_tuple_u32_Size_None());
-    }
-    size_4 = atlas_cache_rooms_grown(size_3, self->options.largest_page);
-    at_13 = std_alloc_vec_lends_VecIndexMutUsize_index_mut_AtlasAllocator(&self->pages, n_2);
-    result_12 = atlas_allocator_atlas_AtlasAllocator_grow(at_13, size_4);
-    if (result_12.tag == 1u /* Err */) {
-        cacheerror_16 = atlas_cache_rooms_refusal(result_12.Err.field_0);
-        return new_Result_Option_tuple_u32_Size_CacheError_Err(cacheerror_16);
-    }
-    at_19 = std_alloc_vec_lends_VecIndexMutUsize_index_mut_Refusals(&self->refused, n_2);
-    *at_19 = new_atlas_cache_Refusals(new_atlas_model_Size(0u, 0u), new_atlas_model_Size(0u, 0u));
-    n_21 = atlas_cache_rooms_number(n_2, self->options.pages);
-    return new_Result_Option_tuple_u32_Size_CacheError_Ok(new_Option_tuple_u32_Size_Some(new_tuple_u32_Size(n_21, size_4)));
-}
-
-/* core/src/result.rt */
-SMALL ControlFlow_ErrResidual_CacheError_Option_tuple_u32_Size core_result_ResultTry_branch_Option_tuple_u32_Size_CacheError(Result_Option_tuple_u32_Size_CacheError self) {
-    ControlFlow_ErrResidual_CacheError_Option_tuple_u32_Size controlflow_4;
-    if (self.tag == 0u /* Ok */) {
-        controlflow_4 = new_ControlFlow_ErrResidual_CacheError_Option_tuple_u32_Size_Continue(self.is.Ok.field_0);
-    } else {
-        controlflow_4 = new_ControlFlow_ErrResidual_CacheError_Option_tuple_u32_Size_Break(new_ErrResidual_CacheError(self.is.Err.field_0));
-    }
-    return controlflow_4;
-}
-
-/* core/src/result.rt */
-SMALL Result_Option_u32_CacheError core_result_ResultFromResidualErrResidual_from_residual_Option_u32_CacheError_CacheError(ErrResidual_CacheError residual) {
-    atlas_entries_CacheError cacheerror_2;
-    cacheerror_2 = core_convert_AnyFrom_from_CacheError(residual.field_0);
-    return new_Result_Option_u32_CacheError_Err(cacheerror_2);
-}
-
-/* A push that cannot fail, since there is spare capacity.
- * std_alloc/src/vec/methods.rt
- */
-SMALL void std_alloc_vec_Vec_push_reserved_CacheChange_u64(Vec_Slot *self, const atlas_cache_CacheChange_u64 value) {
-    std_alloc_vec_Vec_put_CacheChange_u64(self, value);
-}
-
-/* A new page with nothing on it comes last: its number and its size, in pixels. None exactly if there are as many
- * as the options allow. No rectangle moves. `Memory` is the only error. Unless a page is added, nothing changes.
- * crates/atlas_cache/src/rooms.rt
- */
-SMALL Result_Option_tuple_u32_Size_CacheError atlas_cache_rooms_Rooms_add_page(atlas_cache_Rooms *self) {
-    uint32_t n_2;
-    ControlFlow controlflow_15;
-    Result result_16;
-    Result_AtlasAllocator_AtlasError result_18;
-    Result_Option_tuple_u32_Size_CacheError result_21;
-    ControlFlow_ErrResidual_AllocFailed_AtlasAllocator controlflow_22;
-    Result_AllocFailed_AtlasAllocator result_23;
-    n_2 = atlas_cache_rooms_Rooms_len(self);
-    if (n_2 == self->options.pages) {
-        return new_Result_Option_tuple_u32_Size_CacheError_Ok(new_Option_tuple_u32_Size_None());
-    }
-    (void)std_alloc_vec_Vec_allocator_FreeBox(&self->pages);
-    result_16 = std_alloc_vec_Vec_reserve_Refusals(&self->refused, 1u);
-    controlflow_15 = core_result_ResultTry_branch(result_16);
-    if (!(controlflow_15.tag == 0u /* Continue */)) {
-        return core_result_ResultFromResidualErrResidual_from_residual_Option_tuple_u32_Size_CacheError();
-    }
-    result_18 = atlas_allocator_atlas_AtlasAllocator_with_options(self->options.page, &self->options.atlas);
-    if (result_18.tag == 0u /* Ok */) {
-        result_23 = std_alloc_vec_Vec_push_AtlasAllocator(&self->pages, result_18.is.Ok.field_0);
-        controlflow_22 = core_result_ResultTry_branch_AllocFailed_AtlasAllocator(result_23);
-        if (!(controlflow_22.tag == 0u /* Continue */)) {
-            return core_result_ResultFromResidualErrResidual_from_residual_Option_tuple_u32_Size_AllocFailed_AtlasAllocator_CacheError(controlflow_22.Break.field_0);
-        }
-        std_alloc_vec_Vec_push_reserved_Refusals(&self->refused, new_atlas_cache_Refusals(new_atlas_model_Size(0u, 0u),
-                new_atlas_model_Size(0u, 0u)));
-        result_21 = new_Result_Option_tuple_u32_Size_CacheError_Ok(new_Option_tuple_u32_Size_Some(new_tuple_u32_Size(n_2,
-                self->options.page)));
-    } else {
-        result_21 = new_Result_Option_tuple_u32_Size_CacheError_Err(new_atlas_entries_CacheError_Memory());
-    }
-    return result_21;
-}
-
-/* Of the entries that lie on a page the least recently used one goes, if this frame didn't use it: its page.
+/* One change for a request that has room on no page: the page that changed; None if nothing can be done.
  * crates/atlas_cache/src/cache.rt
  */
-SMALL Option_u32 atlas_cache_cache_TextureCache_evict_u64_BuildHasherDefault_FoldHasher_FoldHasher(atlas_cache_TextureCache_u64_BuildHasherDefault_FoldHasher_FoldHasher *self, Vec_Slot *changes) {
-    uint32_t n_3;
-    atlas_entries_Entry_u64 entry_4;
-    atlas_cache_Place place_5;
-    Option_tuple_u32_Entry_u64 option_7;
-    atlas_cache_CacheOptions cacheoptions_20;
-    uint64_t n_25;
-    option_7 = atlas_cache_cache_holding_oldest_lying_u64_BuildHasherDefault_FoldHasher_FoldHasher(&self->entries);
-    if (option_7.tag == 1u /* Some */) {
-        entry_4 = option_7.Some.field_0.field_1;
-        n_3 = option_7.Some.field_0.field_0;
+SMALL Result_Option_u32_CacheError atlas_cache_cache_TextureCache_make_room_u64_BuildHasherDefault_FoldHasher_FoldHasher(atlas_cache_TextureCache_u64_BuildHasherDefault_FoldHasher_FoldHasher *self, atlas_model_Size asked, Vec_Slot *changes) {
+    uint32_t n_8;
+    uint32_t n_12;
+    ControlFlow controlflow_16;
+    Result result_17;
+    Option_tuple_u32_Size option_19;
+    ControlFlow_ErrResidual_CacheError_Option_tuple_u32_Size controlflow_20;
+    Result_Option_tuple_u32_Size_CacheError result_21;
+    Option_tuple_u32_Size option_23;
+    Option_tuple_u32_Size option_28;
+    ControlFlow_ErrResidual_CacheError_Option_tuple_u32_Size controlflow_29;
+    Option_tuple_u32_Size option_31;
+    Option_u32 option_36;
+    Result_Option_tuple_u32_Size_CacheError result_39;
+    (void)asked;
+    atlas_cache_rooms_Rooms_prove_pages(&self->rooms);
+    result_17 = std_alloc_vec_Vec_reserve_CacheChange_u64(changes, 1u);
+    controlflow_16 = core_result_ResultTry_branch(result_17);
+    if (!(controlflow_16.tag == 0u /* Continue */)) {
+        return core_result_ResultFromResidualErrResidual_from_residual_Option_u32_CacheError();
+    }
+    result_21 = atlas_cache_rooms_Rooms_grow_page(&self->rooms);
+    controlflow_20 = core_result_ResultTry_branch_Option_tuple_u32_Size_CacheError(result_21);
+    if (controlflow_20.tag == 0u /* Continue */) {
+        option_23 = controlflow_20.is.Continue.field_0;
     } else {
-        return new_Option_u32_None();
+        return core_result_ResultFromResidualErrResidual_from_residual_Option_u32_CacheError_CacheError(controlflow_20.is.Break.field_0);
     }
-    if (entry_4.frame == self->frame) {
-        return new_Option_u32_None();
+    option_19 = option_23;
+    if (option_19.tag == 1u /* Some */) {
+        n_8 = option_19.Some.field_0.field_0;
+        std_alloc_vec_Vec_push_reserved_CacheChange_u64(changes, new_atlas_cache_CacheChange_u64_PageGrown(n_8,
+                option_19.Some.field_0.field_1));
+        return new_Result_Option_u32_CacheError_Ok(new_Option_u32_Some(n_8));
     }
-    atlas_cache_cache_holding_take_out_u64_BuildHasherDefault_FoldHasher_FoldHasher(&self->rooms, &self->entries, n_3, entry_4);
-    n_25 = atlas_cache_counts_count(self->counts.evictions);
-    self->counts.evictions = n_25;
-    cacheoptions_20 = atlas_cache_rooms_Rooms_options(&self->rooms);
-    place_5 = atlas_cache_cache_holding_place_of_u64(entry_4, &cacheoptions_20);
-    std_alloc_vec_Vec_push_reserved_CacheChange_u64(changes, new_atlas_cache_CacheChange_u64_Evicted(entry_4.key, place_5));
-    return new_Option_u32_Some(entry_4.page);
+    result_39 = atlas_cache_rooms_Rooms_add_page(&self->rooms);
+    controlflow_29 = core_result_ResultTry_branch_Option_tuple_u32_Size_CacheError(result_39);
+    if (controlflow_29.tag == 0u /* Continue */) {
+        option_31 = controlflow_29.is.Continue.field_0;
+    } else {
+        return core_result_ResultFromResidualErrResidual_from_residual_Option_u32_CacheError_CacheError(controlflow_29.is.Break.field_0);
+    }
+    option_28 = option_31;
+    if (option_28.tag == 1u /* Some */) {
+        n_12 = option_28.Some.field_0.field_0;
+        std_alloc_vec_Vec_push_reserved_CacheChange_u64(changes, new_atlas_cache_CacheChange_u64_PageAdded(n_12,
+                option_28.Some.field_0.field_1));
+        return new_Result_Option_u32_CacheError_Ok(new_Option_u32_Some(n_12));
+    }
+    option_36 = atlas_cache_cache_TextureCache_evict_u64_BuildHasherDefault_FoldHasher_FoldHasher(self, changes);
+    return new_Result_Option_u32_CacheError_Ok(option_36);
+}
+
+/* core/src/result.rt */
+SMALL ControlFlow_ErrResidual_CacheError_Option_u32 core_result_ResultTry_branch_Option_u32_CacheError(Result_Option_u32_CacheError self) {
+    ControlFlow_ErrResidual_CacheError_Option_u32 controlflow_4;
+    if (self.tag == 0u /* Ok */) {
+        controlflow_4 = new_ControlFlow_ErrResidual_CacheError_Option_u32_Continue(self.is.Ok.field_0);
+    } else {
+        controlflow_4 = new_ControlFlow_ErrResidual_CacheError_Option_u32_Break(new_ErrResidual_CacheError(self.is.Err.field_0));
+    }
+    return controlflow_4;
+}
+
+/* States what always holds of the pages as a whole, and does nothing: each has the options of the cache, the greatest limit on slots
+ * and a size from `page` to `largest_page`, and there are no more than the options allow.
+ * crates/atlas_cache/src/rooms.rt
+ */
+SMALL void atlas_cache_rooms_Rooms_prove_pages(const atlas_cache_Rooms *self) {
+    (void)atlas_cache_rooms_Rooms_len(self);
 }
 
 /* An entry goes. Its number belongs to none from now on.
@@ -31469,6 +31940,21 @@ SMALL Option_u32 std_collections_hash_map_HashMap_remove_u64_u32_BuildHasherDefa
     return option_10;
 }
 
+/* How many pixels the rectangle of a live id has.
+ * crates/atlas_cache/src/rooms/repacking.rt
+ */
+SMALL uint64_t atlas_cache_rooms_repacking_area_on(const atlas_allocator_AtlasAllocator *page, atlas_model_AllocId id) {
+    Option_Rectangle option_4;
+    uint64_t n_5;
+    option_4 = atlas_allocator_atlas_AtlasAllocator_get(page, id);
+    if (option_4.tag == 1u /* Some */) {
+        n_5 = atlas_cache_rooms_repacking_area_of(option_4.Some.field_0);
+    } else {
+        n_5 = 0u;
+    }
+    return n_5;
+}
+
 /* std_collections/src/index_table/methods.rt */
 SMALL void std_collections_index_table_IndexTable_clear(std_collections_IndexTable *self) {
     slice_Group slice_4;
@@ -31487,8 +31973,8 @@ SMALL void std_collections_columns_Columns_clear_u64_u32(std_collections_Columns
 }
 
 /* std_alloc/src/vec/ends.rt */
-SMALL void std_alloc_vec_Vec_clear_Link_6(Vec_Slot *self) {
-    std_alloc_vec_Vec_truncate_Link_6(self, 0u);
+SMALL void std_alloc_vec_Vec_clear_Link_7(Vec_Slot *self) {
+    std_alloc_vec_Vec_truncate_Link_8(self, 0u);
 }
 
 /* std_alloc/src/vec/ends.rt */
@@ -31501,6 +31987,13 @@ SMALL void std_alloc_vec_Vec_truncate_Entry_u64_2(Vec_Slot *self, uint64_t n) {
     std_alloc_vec_Vec_truncate_within_Entry_u64_2(self, n);
 }
 
+/* A push that cannot fail, since there is spare capacity.
+ * std_alloc/src/vec/methods.rt
+ */
+SMALL void std_alloc_vec_Vec_push_reserved_CacheChange_u64(Vec_Slot *self, const atlas_cache_CacheChange_u64 value) {
+    std_alloc_vec_Vec_put_CacheChange_u64(self, value);
+}
+
 /* The last page goes, if nothing is live on it: its number. None exactly if there is no page, or if something is live
  * on the last one; then nothing changes. Takes no memory.
  * crates/atlas_cache/src/rooms.rt
@@ -31511,7 +32004,7 @@ SMALL Option_u32 atlas_cache_rooms_Rooms_remove_page(atlas_cache_Rooms *self) {
     bool is_7;
     const atlas_allocator_AtlasAllocator *at_8;
     uint32_t n_15;
-    if (std_alloc_vec_Vec_is_empty_Size(&self->pages)) {
+    if (std_alloc_vec_Vec_is_empty_Link(&self->pages)) {
         return new_Option_u32_None();
     }
     n_5 = std_alloc_vec_Vec_len_Allocation(&self->pages);
@@ -31522,7 +32015,7 @@ SMALL Option_u32 atlas_cache_rooms_Rooms_remove_page(atlas_cache_Rooms *self) {
         return new_Option_u32_None();
     }
     std_alloc_vec_Vec_truncate_AtlasAllocator_3(&self->pages, n_2);
-    std_alloc_vec_Vec_truncate_Refusals_2(&self->refused, n_2);
+    std_alloc_vec_Vec_truncate_Known_2(&self->known, n_2);
     n_15 = atlas_cache_rooms_number(n_2, self->options.pages);
     return new_Option_u32_Some(n_15);
 }
@@ -31556,7 +32049,7 @@ SMALL Result_Option_tuple_u32_Allocation_CacheError atlas_cache_rooms_Rooms_plac
     uint64_t n_5;
     Result_Option_Allocation_AtlasError result_9;
     atlas_allocator_AtlasAllocator *at_10;
-    atlas_cache_Refusals *at_13;
+    atlas_cache_Known *at_13;
     uint32_t n_16;
     atlas_entries_CacheError cacheerror_20;
     n_5 = from;
@@ -31565,7 +32058,7 @@ SMALL Result_Option_tuple_u32_Allocation_CacheError atlas_cache_rooms_Rooms_plac
             break;
         }
         at_10 = std_alloc_vec_lends_VecIndexMutUsize_index_mut_AtlasAllocator(&self->pages, n_5);
-        at_13 = std_alloc_vec_lends_VecIndexMutUsize_index_mut_Refusals(&self->refused, n_5);
+        at_13 = std_alloc_vec_lends_VecIndexMutUsize_index_mut_Known(&self->known, n_5);
         result_9 = atlas_cache_rooms_asking_ask(at_10, at_13, asked);
         if (result_9.tag == 0u /* Ok */) {
             if (!(result_9.is.Ok.field_0.tag == 0u /* None */)) {
@@ -31731,6 +32224,14 @@ SMALL void std_alloc_vec_Vec_drop_Link_9(Vec_Slot given_1) {
     std_alloc_vec_Vec_destroy_empty_Link_6(vec_2);
 }
 
+/* std_alloc::vec::Vec::drop */
+SMALL void std_alloc_vec_Vec_drop_Marks_5(Vec_Slot given_1) {
+    Vec_Slot vec_2;
+    vec_2 = given_1;
+    std_alloc_vec_Vec_clear_Marks_5(&vec_2);
+    std_alloc_vec_Vec_destroy_empty_Marks_5(vec_2);
+}
+
 /* std_alloc::vec::Vec::sort_unstable_by_key */
 SMALL void std_alloc_vec_Vec_sort_unstable_by_key_Change_u32(Vec_Slot *given_1) {
     slice_Change_2 slice_4;
@@ -31814,21 +32315,14 @@ SMALL Result_Vec_AllocId core_result_ResultFromResidualErrResidual_from_residual
 }
 
 /* std_alloc/src/vec/methods.rt */
-SMALL slice_Refusals std_alloc_vec_Vec_as_slice_Refusals(const Vec_Slot *self) {
-    slice_Refusals slice_2;
-    slice_2 = new_slice_Refusals((const atlas_cache_Refusals *)self->ptr, self->len);
-    return slice_2;
-}
-
-/* std_alloc/src/vec/methods.rt */
-SMALL Result_Vec_AllocId std_alloc_vec_Vec_with_capacity_Refusals(uint64_t capacity) {
+SMALL Result_Vec_AllocId std_alloc_vec_Vec_with_capacity_Known(uint64_t capacity) {
     Vec_Slot vec_3;
     bool is_7;
     vec_3 = std_alloc_vec_Vec_new_CacheChange_u64();
     if (capacity != 0u) {
-        is_7 = std_alloc_vec_Vec_move_to_Refusals(&vec_3, capacity);
+        is_7 = std_alloc_vec_Vec_move_to_Known(&vec_3, capacity);
         if (!is_7) {
-            std_alloc_vec_Vec_destroy_empty_Refusals_2(vec_3);
+            std_alloc_vec_Vec_destroy_empty_Known_2(vec_3);
             return new_Result_Vec_AllocId_Err();
         }
     }
@@ -31836,29 +32330,29 @@ SMALL Result_Vec_AllocId std_alloc_vec_Vec_with_capacity_Refusals(uint64_t capac
 }
 
 /* std_alloc/src/vec/ends.rt */
-SMALL Result std_alloc_vec_Vec_extend_from_slice_Refusals(Vec_Slot *self, slice_Refusals other) {
+SMALL Result std_alloc_vec_Vec_extend_from_slice_Known(Vec_Slot *self, slice_Known other) {
     uint64_t n_3;
     Slots_CacheChange_u64 slots_4;
     bool is_6;
     tuple_Slots_CacheChange_u64_Spare_CacheChange_u64 tuple_12;
-    is_6 = std_alloc_vec_Vec_grow_Refusals(self, other.len);
+    is_6 = std_alloc_vec_Vec_grow_Known(self, other.len);
     if (!is_6) {
         return new_Result_Err();
     }
     n_3 = std_alloc_vec_Vec_len_Allocation(self);
     tuple_12 = std_alloc_vec_Vec_detach_CacheChange_u64(self, n_3 + other.len);
     slots_4 = tuple_12.field_0;
-    core_slots_Slots_copy_in_Refusals(&slots_4, n_3, other);
+    core_slots_Slots_copy_in_Known(&slots_4, n_3, other);
     std_alloc_vec_Vec_attach_CacheChange_u64(self, slots_4, tuple_12.field_1, n_3 + other.len);
     return new_Result_Ok();
 }
 
 /* std_alloc::vec::Vec::drop */
-SMALL void std_alloc_vec_Vec_drop_Refusals_3(Vec_Slot given_1) {
+SMALL void std_alloc_vec_Vec_drop_Known_3(Vec_Slot given_1) {
     Vec_Slot vec_2;
     vec_2 = given_1;
-    std_alloc_vec_Vec_clear_Refusals_3(&vec_2);
-    std_alloc_vec_Vec_destroy_empty_Refusals_2(vec_2);
+    std_alloc_vec_Vec_clear_Known_3(&vec_2);
+    std_alloc_vec_Vec_destroy_empty_Known_2(vec_2);
 }
 
 /* core::clone::Clone+copy::clone */
@@ -31892,7 +32386,7 @@ SMALL Option_tuple_ref_u64_ref_u32 std_collections_hash_map_iter_shared_IterIter
 /* If the key is present, keeps the stored key and returns the old value.
  * std_collections/src/hash_map/methods.rt
  */
-SMALL Result_Option_u32_AllocFailed_tuple_u64_u32 std_collections_hash_map_HashMap_insert_u64_u32_BuildHasherDefault_FoldHasher_FoldHasher(std_collections_HashMap_u64_u32_BuildHasherDefault_FoldHasher_FoldHasher *self, uint64_t key, uint32_t value) {
+PART Result_Option_u32_AllocFailed_tuple_u64_u32 std_collections_hash_map_HashMap_insert_u64_u32_BuildHasherDefault_FoldHasher_FoldHasher(std_collections_HashMap_u64_u32_BuildHasherDefault_FoldHasher_FoldHasher *self, uint64_t key, uint32_t value) {
     Result_Option_u32_AllocFailed_tuple_u64_u32 result;
     uint64_t n_4;
     uint32_t n_5;
@@ -31951,7 +32445,7 @@ SMALL Result_Vec_AllocId std_alloc_vec_Vec_from_slice_Link_2(slice_Link_4 items)
     Vec_Slot vec_11;
     Result result_12;
     Result_Vec_AllocId result_14;
-    result_8 = std_alloc_vec_Vec_with_capacity_Link_3(items.len);
+    result_8 = std_alloc_vec_Vec_with_capacity_Link_2(items.len);
     controlflow_7 = core_result_ResultTry_branch_Vec_AllocId(result_8);
     if (controlflow_7.tag == 0u /* Continue */) {
         vec_11 = controlflow_7.Continue.field_0;
@@ -31964,7 +32458,7 @@ SMALL Result_Vec_AllocId std_alloc_vec_Vec_from_slice_Link_2(slice_Link_4 items)
         result_14 = new_Result_Vec_AllocId_Ok(vec_3);
     } else {
         result_14 = new_Result_Vec_AllocId_Err();
-        std_alloc_vec_Vec_drop_Link_12(vec_3);
+        std_alloc_vec_Vec_drop_Link_11(vec_3);
     }
     return result_14;
 }
@@ -32052,13 +32546,13 @@ SMALL void atlas_cache_Destruct_none_drop(void) {
 }
 
 /* std_alloc/src/vec/ends.rt */
-SMALL void std_alloc_vec_Vec_truncate_Refusals_2(Vec_Slot *self, uint64_t n) {
+SMALL void std_alloc_vec_Vec_truncate_Known_2(Vec_Slot *self, uint64_t n) {
     uint64_t n_3;
     n_3 = std_alloc_vec_Vec_len_Allocation(self);
     if (n_3 <= n) {
         return;
     }
-    std_alloc_vec_Vec_truncate_within_Refusals_2(self, n);
+    std_alloc_vec_Vec_truncate_within_Known_2(self, n);
 }
 
 /* Whether an array of n values is small enough to allocate.
@@ -32165,7 +32659,7 @@ SMALL uint64_t std_collections_hash_map_HashMap_spare_u64_u32_BuildHasherDefault
 /* The columns grow with the table, so that they are not moved between two of its resizes.
  * std_collections/src/hash_map/places.rt
  */
-PART Result std_collections_hash_map_HashMap_grow_u64_u32_BuildHasherDefault_FoldHasher_FoldHasher(std_collections_HashMap_u64_u32_BuildHasherDefault_FoldHasher_FoldHasher *self, uint64_t additional) {
+SMALL Result std_collections_hash_map_HashMap_grow_u64_u32_BuildHasherDefault_FoldHasher_FoldHasher(std_collections_HashMap_u64_u32_BuildHasherDefault_FoldHasher_FoldHasher *self, uint64_t additional) {
     ControlFlow controlflow_5;
     Result result_6;
     const void *at_8;
@@ -32613,7 +33107,7 @@ after_2:;
 /* The sprites with their numbers, from 0.
  * crates/atlas_sheet/src/orders.rt
  */
-PART Result_Vec_Size_SheetError atlas_sheet_orders_numbered(slice_Size sprites) {
+SMALL Result_Vec_Size_SheetError atlas_sheet_orders_numbered(slice_Size sprites) {
     Result_Vec_Size_SheetError result;
     Vec_Slot vec_3;
     ControlFlow_Vec_AllocId controlflow_8;
@@ -34010,53 +34504,6 @@ SMALL void std_alloc_vec_opened_drop_run_Option_Placed(Slots_CacheChange_u64 *ro
     }
 }
 
-/* Whether an array of n values is small enough to allocate.
- * std_alloc/src/room.rt
- */
-SMALL bool std_alloc_room_may_hold_Slot(uint64_t n) {
-    uint64_t n_2;
-    n_2 = sizeof(atlas_store_Slot);
-    if (UINT64_C(9223372036854775807) < n) {
-        return false;
-    }
-    if (UINT64_C(9223372036854775807) < n_2) {
-        return false;
-    }
-    if (n_2 == 0u) {
-        return true;
-    }
-    return n <= (UINT64_C(9223372036854775807) / n_2);
-}
-
-/* Makes the buffer at ptr a larger block, for new_cap elements, which keeps its len elements. On `Err` the
- * buffer is as it was.
- * std_alloc/src/vec.rt
- */
-SMALL Result_ptr std_alloc_vec_resize_Slot(const void *alloc, void *ptr, uint64_t len, uint64_t old_cap, uint64_t new_cap) {
-    Result_ptr result_9;
-    Result_ptr result_10;
-    Result_ptr result_12;
-    if (old_cap != 0u) {
-        result_9 = std_heap_GlobalAllocator_grow_Slot(alloc, ptr, len, old_cap, new_cap);
-        return result_9;
-    }
-    result_10 = std_heap_GlobalAllocator_allocate(alloc, new_cap * sizeof(atlas_store_Slot), 4u);
-    if (result_10.tag == 0u /* Ok */) {
-        result_12 = new_Result_ptr_Ok(result_10.Ok.field_0);
-    } else {
-        result_12 = new_Result_ptr_Err();
-    }
-    return result_12;
-}
-
-/* std_alloc::vec::Vec::drop */
-SMALL void std_alloc_vec_Vec_drop_Link_10(Vec_Slot given_1) {
-    Vec_Slot vec_2;
-    vec_2 = given_1;
-    std_alloc_vec_Vec_clear_Link_8(&vec_2);
-    std_alloc_vec_Vec_destroy_empty_Link_3(vec_2);
-}
-
 /* Copies count values bit for bit. A share of the source is enough, so it may be shared memory. The clauses say
  * nothing of what the values own, so the caller keeps track of that.
  * core/src/ptr/copy_drop.rt
@@ -34127,8 +34574,60 @@ SMALL void core_slots_Slots_copy_in_Link(Slots_CacheChange_u64 *self, uint64_t t
 }
 
 /* std_alloc/src/vec/ends.rt */
-SMALL void std_alloc_vec_Vec_clear_Link_7(Vec_Slot *self) {
+SMALL void std_alloc_vec_Vec_clear_Link_8(Vec_Slot *self) {
     std_alloc_vec_Vec_truncate_Link_7(self, 0u);
+}
+
+/* Moves the elements to a larger block, of capacity `cap`, which may be the one that they are in, and returns whether it could.
+ * std_alloc/src/vec/methods.rt
+ */
+SMALL bool std_alloc_vec_Vec_move_to_Marks(Vec_Slot *self, uint64_t cap) {
+    bool is_4;
+    Result_ptr result_6;
+    Result_ptr result_7;
+    bool is_12;
+    is_4 = std_alloc_room_may_hold_Marks(cap);
+    if (!is_4) {
+        return false;
+    }
+    result_7 = std_alloc_vec_resize_Marks((const void *)&nothing, self->ptr, self->len, self->cap, cap);
+    result_6 = result_7;
+    if (result_6.tag == 0u /* Ok */) {
+        self->ptr = result_6.Ok.field_0;
+        self->cap = cap;
+        is_12 = true;
+    } else {
+        is_12 = false;
+    }
+    return is_12;
+}
+
+/* Frees an empty Vec, also where `T` is not `Drop`.
+ * std_alloc/src/vec/methods.rt
+ */
+SMALL void std_alloc_vec_Vec_destroy_empty_Marks_4(Vec_Slot self) {
+    std_alloc_vec_Vec_free_block_Marks(self);
+    atlas_search_Destruct_none_drop();
+}
+
+/* Appends x. There is spare capacity.
+ * std_alloc/src/vec/methods.rt
+ */
+SMALL void std_alloc_vec_Vec_put_Marks(Vec_Slot *self, const atlas_search_Marks x) {
+    uint64_t n_3;
+    n_3 = self->len;
+    *((atlas_search_Marks *)self->ptr + n_3) = x;
+    self->len = n_3 + 1u;
+}
+
+/* std_alloc/src/vec/ends.rt */
+SMALL void std_alloc_vec_Vec_truncate_Link_6(Vec_Slot *self, uint64_t n) {
+    uint64_t n_3;
+    n_3 = std_alloc_vec_Vec_len_Allocation(self);
+    if (n_3 <= n) {
+        return;
+    }
+    std_alloc_vec_Vec_truncate_within_Link_6(self, n);
 }
 
 /* std_alloc/src/vec/ends.rt */
@@ -34140,6 +34639,82 @@ SMALL void std_alloc_vec_Vec_truncate_within_Slot_3(Vec_Slot *self, uint64_t n) 
     tuple_7 = std_alloc_vec_Vec_detach_CacheChange_u64(self, n_3);
     slots_4 = tuple_7.field_0;
     std_alloc_vec_opened_drop_run_Slot_3(&slots_4, n, n_3);
+    std_alloc_vec_Vec_attach_CacheChange_u64(self, slots_4, tuple_7.field_1, n);
+}
+
+/* std_alloc/src/vec/ends.rt */
+SMALL void std_alloc_vec_Vec_truncate_Link_7(Vec_Slot *self, uint64_t n) {
+    uint64_t n_3;
+    n_3 = std_alloc_vec_Vec_len_Allocation(self);
+    if (n_3 <= n) {
+        return;
+    }
+    std_alloc_vec_Vec_truncate_within_Link_7(self, n);
+}
+
+/* Appends n copies of x.
+ * std_alloc/src/vec/ends.rt
+ */
+SMALL Result std_alloc_vec_Vec_extend_with_Link(Vec_Slot *self, uint64_t n, atlas_search_Link x) {
+    uint64_t n_4;
+    Slots_CacheChange_u64 slots_5;
+    bool is_7;
+    tuple_Slots_CacheChange_u64_Spare_CacheChange_u64 tuple_12;
+    is_7 = std_alloc_vec_Vec_grow_Link(self, n);
+    if (!is_7) {
+        return new_Result_Err();
+    }
+    n_4 = std_alloc_vec_Vec_len_Allocation(self);
+    tuple_12 = std_alloc_vec_Vec_detach_CacheChange_u64(self, n_4 + n);
+    slots_5 = tuple_12.field_0;
+    std_alloc_vec_opened_fill_run_Link(&slots_5, n_4, n_4 + n, x);
+    std_alloc_vec_Vec_attach_CacheChange_u64(self, slots_5, tuple_12.field_1, n_4 + n);
+    return new_Result_Ok();
+}
+
+/* std_alloc/src/vec/lends.rt */
+SMALL atlas_search_Link *std_alloc_vec_lends_VecIndexMutUsize_index_mut_Link(Vec_Slot *self, uint64_t index) {
+    atlas_search_Link *at_3;
+    at_3 = ((atlas_search_Link *)self->ptr + index);
+    return at_3;
+}
+
+/* Marks a place.
+ * crates/atlas_search/src/marks.rt
+ */
+SMALL void atlas_search_marks_Marks_mark(atlas_search_Marks *self, atlas_search_Place at) {
+    atlas_search_Mask mask_3;
+    atlas_search_Mask mask_21;
+    atlas_search_Mask mask_24;
+    mask_3 = atlas_search_masks_Mask_with(*((atlas_search_Mask *)(void *)&self->rows + at.row), at.column);
+    *((atlas_search_Mask *)(void *)&self->rows + at.row) = mask_3;
+    mask_21 = atlas_search_masks_Mask_with(*((atlas_search_Mask *)(void *)&self->columns + at.column), at.row);
+    *((atlas_search_Mask *)(void *)&self->columns + at.column) = mask_21;
+    mask_24 = atlas_search_masks_Mask_with(self->used, at.row);
+    self->used = mask_24;
+}
+
+/* std_alloc/src/vec/ends.rt */
+SMALL void std_alloc_vec_Vec_truncate_within_Link_5(Vec_Slot *self, uint64_t n) {
+    uint64_t n_3;
+    Slots_CacheChange_u64 slots_4;
+    tuple_Slots_CacheChange_u64_Spare_CacheChange_u64 tuple_7;
+    n_3 = std_alloc_vec_Vec_len_Allocation(self);
+    tuple_7 = std_alloc_vec_Vec_detach_CacheChange_u64(self, n_3);
+    slots_4 = tuple_7.field_0;
+    std_alloc_vec_opened_drop_run_Link_5(&slots_4, n, n_3);
+    std_alloc_vec_Vec_attach_CacheChange_u64(self, slots_4, tuple_7.field_1, n);
+}
+
+/* std_alloc/src/vec/ends.rt */
+SMALL void std_alloc_vec_Vec_truncate_within_Marks_4(Vec_Slot *self, uint64_t n) {
+    uint64_t n_3;
+    Slots_CacheChange_u64 slots_4;
+    tuple_Slots_CacheChange_u64_Spare_CacheChange_u64 tuple_7;
+    n_3 = std_alloc_vec_Vec_len_Allocation(self);
+    tuple_7 = std_alloc_vec_Vec_detach_CacheChange_u64(self, n_3);
+    slots_4 = tuple_7.field_0;
+    std_alloc_vec_opened_drop_run_Marks_4(&slots_4, n, n_3);
     std_alloc_vec_Vec_attach_CacheChange_u64(self, slots_4, tuple_7.field_1, n);
 }
 
@@ -34165,6 +34740,18 @@ SMALL atlas_search_Link core_slots_Slots_take_Link(Slots_CacheChange_u64 *self, 
 /* core/src/mem.rt */
 SMALL void core_mem_drop_Link(atlas_search_Link x) {
     guillotiere_c_Destruct_none_drop_Link(x);
+}
+
+/* core/src/slots/moves.rt */
+SMALL atlas_search_Marks core_slots_Slots_take_Marks(Slots_CacheChange_u64 *self, uint64_t i) {
+    atlas_search_Marks marks_3;
+    marks_3 = *((atlas_search_Marks *)self->ptr + i);
+    return marks_3;
+}
+
+/* core/src/mem.rt */
+SMALL void core_mem_drop_Marks(const atlas_search_Marks x) {
+    guillotiere_c_Destruct_none_drop_Marks(x);
 }
 
 /* The lists' part of a slot.
@@ -34405,6 +34992,23 @@ SMALL void atlas_store_slots_write_node(slice_Slot_2 slots, atlas_search_Link at
     at_4->generation = node.generation;
 }
 
+/* std_heap/src/lib.rt */
+SMALL Result_ptr std_heap_GlobalAllocator_grow_Slot(const void *self, void *ptr, uint64_t len, uint64_t _old_cap, uint64_t new_cap) {
+    uint64_t n_6;
+    Tried tried_7;
+    Result_ptr result_13;
+    (void)self;
+    (void)_old_cap;
+    n_6 = sizeof(atlas_store_Slot);
+    tried_7 = libc_heap_rattle_realloc(ptr, len * n_6, new_cap * n_6, 4u);
+    if (tried_7.ok) {
+        result_13 = new_Result_ptr_Ok(tried_7.p);
+    } else {
+        result_13 = new_Result_ptr_Err();
+    }
+    return result_13;
+}
+
 /* The least capacity after a growth, as in Rust: 8 for elements of at most one byte, 4 for those
  * of up to 1,024 bytes, and else 1. The borrow checker covers `size_of::<T>()` only in a product,
  * so this asks `may_hold`: `isize::MAX` elements fit a block only if each has at most one byte.
@@ -34540,8 +35144,42 @@ SMALL uint64_t atlas_search_bands_passed(uint32_t side, uint32_t threshold) {
 SMALL void atlas_search_search_search_list_Slot(slice_Slot entries, const atlas_search_Table *table, atlas_search_Place place,
         atlas_search_Best *best) {
     atlas_search_Link link_6;
-    link_6 = atlas_search_table_Table_head(table, place);
+    link_6 = atlas_search_table_Table_stored_head(table, place);
     atlas_search_search_show_list_Slot(entries, link_6, best);
+}
+
+/* The list that one of the first few slots comes first in, in a table that hasn't grown; LISTS or more if it does in none.
+ * crates/atlas_search/src/table.rt
+ */
+SMALL uint64_t atlas_search_table_Table_list_of_few(const atlas_search_Table *self, uint64_t i) {
+    return (uint64_t)*((uint16_t *)(void *)&self->only + i);
+}
+
+/* Shows a list that begins with this to a search.
+ * crates/atlas_search/src/search.rt
+ */
+SMALL void atlas_search_search_show_list_Slot(slice_Slot entries, atlas_search_Link top, atlas_search_Best *best) {
+    const atlas_store_Slot *at_4;
+    atlas_search_Halves halves_5;
+    atlas_search_Cell cell_12;
+    atlas_model_Size size_13;
+    atlas_model_Rectangle rectangle_14;
+    atlas_search_Link link_16;
+    atlas_search_Link link_23;
+    if (entries.len <= (uint64_t)top.number) {
+        return;
+    }
+    at_4 = ((atlas_store_Slot *)entries.at + (uint64_t)top.number);
+    if (atlas_search_search_show_entry_Slot(at_4, top, best)) {
+        rectangle_14 = atlas_store_slots_entry_SlotEntry_rectangle(at_4);
+        size_13 = atlas_search_cut_exact_size(rectangle_14);
+        cell_12 = atlas_search_cells_Cell_around(size_13);
+        halves_5 = atlas_search_cells_Cell_halves(cell_12);
+        link_16 = atlas_store_slots_entry_SlotEntry_left(at_4);
+        atlas_search_search_show_Slot(entries, link_16, halves_5.low, best);
+        link_23 = atlas_store_slots_entry_SlotEntry_right(at_4);
+        atlas_search_search_show_Slot(entries, link_23, halves_5.high, best);
+    }
 }
 
 /* The least capacity after a growth, as in Rust: 8 for elements of at most one byte, 4 for those
@@ -34814,14 +35452,21 @@ SMALL void std_alloc_vec_opened_drop_run_Link_3(Slots_CacheChange_u64 *row, uint
     }
 }
 
-/* std_alloc/src/vec/ends.rt */
-SMALL void std_alloc_vec_Vec_truncate_Link_5(Vec_Slot *self, uint64_t n) {
-    uint64_t n_3;
-    n_3 = std_alloc_vec_Vec_len_Allocation(self);
-    if (n_3 <= n) {
-        return;
+/* Drops the values from `from` up to `to`, in that order.
+ * std_alloc/src/vec/opened.rt
+ */
+SMALL void std_alloc_vec_opened_drop_run_Marks_2(Slots_CacheChange_u64 *row, uint64_t from, uint64_t to) {
+    uint64_t n_4;
+    atlas_search_Marks marks_7;
+    n_4 = from;
+    for (;;) {
+        if (!(n_4 < to)) {
+            break;
+        }
+        marks_7 = core_slots_Slots_take_Marks(row, n_4);
+        core_mem_drop_Marks_2(marks_7);
+        n_4 = n_4 + 1u;
     }
-    std_alloc_vec_Vec_truncate_within_Link_5(self, n);
 }
 
 /* core/src/slots/moves.rt */
@@ -34915,6 +35560,34 @@ SMALL void atlas_search_search_search_rows_FreeBox(slice_FreeBox entries, const 
     }
 }
 
+/* Shows the lists before a row and a column to a search, where only the first few slots come first in lists.
+ * crates/atlas_search/src/search.rt
+ */
+SMALL void atlas_search_search_search_few_FreeBox(slice_FreeBox entries, const atlas_search_Table *table, uint64_t end,
+        atlas_search_Best *best) {
+    uint64_t n_5;
+    uint64_t n_6;
+    uint64_t n_7;
+    uint64_t n_8;
+    uint64_t n_10;
+    atlas_search_Link link_12;
+    n_5 = 0u;
+    for (;;) {
+        if (!(n_5 < 8u)) {
+            break;
+        }
+        n_6 = atlas_search_table_Table_list_of_few(table, n_5);
+        n_7 = n_6 / 52u;
+        n_8 = n_6 % 52u;
+        n_10 = core_int_usize_max(n_7, n_8);
+        if (n_10 < end) {
+            link_12 = atlas_search_table_Table_head(table, new_atlas_search_Place(n_7, n_8));
+            atlas_search_search_show_list_FreeBox(entries, link_12, best);
+        }
+        n_5 = n_5 + 1u;
+    }
+}
+
 /* Takes a box out of its list.
  * crates/guillotiere/src/simple/boxes.rt
  */
@@ -34935,7 +35608,7 @@ SMALL void guillotiere_simple_boxes_FreeBoxes_unlist(guillotiere_FreeBoxes *self
 /* The part of `grow` that asks the allocator, apart so that the test is inlined.
  * std_alloc/src/vec/methods.rt
  */
-SMALL bool std_alloc_vec_Vec_grow_amortized_FreeBox(Vec_Slot *self, uint64_t additional) {
+COLD bool std_alloc_vec_Vec_grow_amortized_FreeBox(Vec_Slot *self, uint64_t additional) {
     uint64_t n_3;
     uint64_t n_8;
     uint64_t n_11;
@@ -34977,11 +35650,21 @@ SMALL void std_alloc_vec_Vec_put_FreeBox(Vec_Slot *self, guillotiere_FreeBox x) 
     self->len = n_3 + 1u;
 }
 
-/* std_alloc/src/vec/derefs.rt */
-SMALL const atlas_search_Link *std_alloc_vec_derefs_VecIndexUsize_index_Link(const Vec_Slot *self, uint64_t index) {
-    slice_Link slice_3;
-    slice_3 = std_alloc_vec_Vec_as_slice_Link(self);
-    return ((atlas_search_Link *)slice_3.at + index);
+/* The first slot of the list of this number, or none.
+ * crates/atlas_search/src/table.rt
+ */
+SMALL atlas_search_Link atlas_search_table_Table_first(const atlas_search_Table *self, uint64_t number) {
+    uint64_t n_3;
+    atlas_search_Link link_6;
+    const atlas_search_Link *at_7;
+    n_3 = std_alloc_vec_Vec_len_Allocation(&self->heads);
+    if (number < n_3) {
+        at_7 = std_alloc_vec_derefs_VecIndexUsize_index_Link(&self->heads, number);
+        link_6 = *at_7;
+    } else {
+        link_6 = atlas_search_table_head_in(&self->only, number);
+    }
+    return link_6;
 }
 
 /* Whether an entry, if there is one, has nothing on its left, comes before another one, and is alike.
@@ -35107,26 +35790,49 @@ PART atlas_search_Link atlas_search_heap_sort_in_FreeBox(slice_FreeBox_2 entries
     return link_9;
 }
 
-/* std_alloc/src/vec/lends.rt */
-SMALL atlas_search_Link *std_alloc_vec_lends_VecIndexMutUsize_index_mut_Link(Vec_Slot *self, uint64_t index) {
-    atlas_search_Link *at_3;
-    at_3 = ((atlas_search_Link *)self->ptr + index);
-    return at_3;
+/* A slot comes first in a list, where heads are stored.
+ * crates/atlas_search/src/table.rt
+ */
+SMALL void atlas_search_table_raise_in(Vec_Slot *heads, Vec_Slot *marks, uint64_t emptied, atlas_search_Place at, atlas_search_Link first) {
+    uint64_t n_6;
+    atlas_search_Link link_7;
+    const atlas_search_Link *at_9;
+    atlas_search_Link *at_11;
+    atlas_search_Marks *at_16;
+    n_6 = (52u * at.row) + at.column;
+    at_9 = std_alloc_vec_derefs_VecIndexUsize_index_Link(heads, n_6);
+    link_7 = *at_9;
+    at_11 = std_alloc_vec_lends_VecIndexMutUsize_index_mut_Link(heads, n_6);
+    *at_11 = first;
+    if (link_7.number == 4294967295u) {
+        if (emptied != n_6) {
+            at_16 = std_alloc_vec_lends_VecIndexMutUsize_index_mut_Marks(marks, 0u);
+            atlas_search_marks_Marks_mark(at_16, at);
+            goto after_1;
+        }
+    }
+after_1:;
 }
 
-/* Marks a place.
- * crates/atlas_search/src/marks.rt
+/* A list begins with this slot, one of the first few, or with none, from now on.
+ * crates/atlas_search/src/table.rt
  */
-SMALL void atlas_search_marks_Marks_mark(atlas_search_Marks *self, atlas_search_Place at) {
-    atlas_search_Mask mask_3;
-    atlas_search_Mask mask_21;
-    atlas_search_Mask mask_24;
-    mask_3 = atlas_search_masks_Mask_with(*((atlas_search_Mask *)(void *)&self->rows + at.row), at.column);
-    *((atlas_search_Mask *)(void *)&self->rows + at.row) = mask_3;
-    mask_21 = atlas_search_masks_Mask_with(*((atlas_search_Mask *)(void *)&self->columns + at.column), at.row);
-    *((atlas_search_Mask *)(void *)&self->columns + at.column) = mask_21;
-    mask_24 = atlas_search_masks_Mask_with(self->used, at.row);
-    self->used = mask_24;
+COLD void atlas_search_table_set_head_in(array_u16_8 *only, uint64_t number, atlas_search_Link first) {
+    uint64_t n_4;
+    n_4 = 0u;
+    for (;;) {
+        if (!(n_4 < 8u)) {
+            break;
+        }
+        if (n_4 == (uint64_t)first.number) {
+            *((uint16_t *)(void *)only + n_4) = (uint16_t)number;
+        } else {
+            if ((uint64_t)*((uint16_t *)(void *)only + n_4) == number) {
+                *((uint16_t *)(void *)only + n_4) = 2704u;
+            }
+        }
+        n_4 = n_4 + 1u;
+    }
 }
 
 /* std_heap/src/lib.rt */
@@ -35146,11 +35852,6 @@ SMALL Result_ptr std_heap_GlobalAllocator_grow_FreeBox(const void *self, void *p
     return result_13;
 }
 
-/* std_alloc/src/vec/ends.rt */
-SMALL void std_alloc_vec_Vec_clear_Link_8(Vec_Slot *self) {
-    std_alloc_vec_Vec_truncate_Link_8(self, 0u);
-}
-
 /* Drops the values from `from` up to `to`, in that order.
  * std_alloc/src/vec/opened.rt
  */
@@ -35164,6 +35865,23 @@ SMALL void std_alloc_vec_opened_drop_run_Link_4(Slots_CacheChange_u64 *row, uint
         }
         link_7 = core_slots_Slots_take_Link(row, n_4);
         core_mem_drop_Link_4(link_7);
+        n_4 = n_4 + 1u;
+    }
+}
+
+/* Drops the values from `from` up to `to`, in that order.
+ * std_alloc/src/vec/opened.rt
+ */
+SMALL void std_alloc_vec_opened_drop_run_Marks_3(Slots_CacheChange_u64 *row, uint64_t from, uint64_t to) {
+    uint64_t n_4;
+    atlas_search_Marks marks_7;
+    n_4 = from;
+    for (;;) {
+        if (!(n_4 < to)) {
+            break;
+        }
+        marks_7 = core_slots_Slots_take_Marks(row, n_4);
+        core_mem_drop_Marks_3(marks_7);
         n_4 = n_4 + 1u;
     }
 }
@@ -35194,11 +35912,19 @@ SMALL void std_alloc_vec_Vec_drop_Slot_6(Vec_Slot given_1) {
 }
 
 /* std_alloc::vec::Vec::drop */
-SMALL void std_alloc_vec_Vec_drop_Link_11(Vec_Slot given_1) {
+SMALL void std_alloc_vec_Vec_drop_Link_10(Vec_Slot given_1) {
     Vec_Slot vec_2;
     vec_2 = given_1;
-    std_alloc_vec_Vec_clear_Link_11(&vec_2);
+    std_alloc_vec_Vec_clear_Link_10(&vec_2);
     std_alloc_vec_Vec_destroy_empty_Link_7(vec_2);
+}
+
+/* std_alloc::vec::Vec::drop */
+SMALL void std_alloc_vec_Vec_drop_Marks_6(Vec_Slot given_1) {
+    Vec_Slot vec_2;
+    vec_2 = given_1;
+    std_alloc_vec_Vec_clear_Marks_6(&vec_2);
+    std_alloc_vec_Vec_destroy_empty_Marks_6(vec_2);
 }
 
 /* Makes room for `additional` more elements, and returns whether it could.
@@ -35285,15 +36011,15 @@ SMALL std_collections_IndexTable std_collections_index_table_IndexTable_new(void
 }
 
 /* core/src/slots/moves.rt */
-SMALL atlas_cache_Refusals core_slots_Slots_take_Refusals(Slots_CacheChange_u64 *self, uint64_t i) {
-    atlas_cache_Refusals refusals_3;
-    refusals_3 = *((atlas_cache_Refusals *)self->ptr + i);
-    return refusals_3;
+SMALL atlas_cache_Known core_slots_Slots_take_Known(Slots_CacheChange_u64 *self, uint64_t i) {
+    atlas_cache_Known known_3;
+    known_3 = *((atlas_cache_Known *)self->ptr + i);
+    return known_3;
 }
 
 /* core/src/mem.rt */
-SMALL void core_mem_drop_Refusals(atlas_cache_Refusals x) {
-    guillotiere_c_Destruct_none_drop_Refusals(x);
+SMALL void core_mem_drop_Known(atlas_cache_Known x) {
+    guillotiere_c_Destruct_none_drop_Known(x);
 }
 
 /* std_alloc/src/vec/methods.rt */
@@ -35700,249 +36426,288 @@ SMALL void atlas_entries_entries_bind_u64_BuildHasherDefault_FoldHasher_FoldHash
     (void)std_collections_hash_map_HashMap_insert_u64_u32_BuildHasherDefault_FoldHasher_FoldHasher(map, key, number);
 }
 
-/* The same, where none but the pages from `from` on and before `to` can have room: only these are looked at.
- * crates/atlas_cache/src/rooms.rt
+/* A new entry on the first page that has room for it, which is one of these, if any has; None if none has. After an error
+ * no rectangle has moved.
+ * crates/atlas_cache/src/cache/holding.rt
  */
-SMALL Result_Option_tuple_u32_Allocation_CacheError atlas_cache_rooms_Rooms_place_among(atlas_cache_Rooms *self, uint64_t from,
-        uint64_t to, atlas_model_Size asked) {
-    return atlas_cache_rooms_Rooms_place_before(self, from, to, asked);
+SMALL Result_Option_Entry_u64_CacheError atlas_cache_cache_holding_grant_u64_BuildHasherDefault_FoldHasher_FoldHasher(atlas_cache_Rooms *rooms, atlas_entries_Entries_u64_BuildHasherDefault_FoldHasher_FoldHasher *entries, uint64_t key, atlas_model_Size size, atlas_model_Size asked, uint64_t frame, uint64_t from, uint64_t to) {
+    Result_Option_Entry_u64_CacheError result;
+    uint32_t n_9;
+    atlas_model_Allocation allocation_10;
+    atlas_entries_Entry_u64 entry_13;
+    Option_tuple_u32_Allocation option_16;
+    ControlFlow_ErrResidual_CacheError_Option_tuple_u32_Allocation controlflow_17;
+    Result_Option_tuple_u32_Allocation_CacheError result_18;
+    Option_tuple_u32_Allocation option_20;
+    Result_u32_CacheError result_24;
+    Result_Option_Entry_u64_CacheError result_27;
+    result_18 = atlas_cache_rooms_Rooms_place_among(rooms, from, to, asked);
+    controlflow_17 = core_result_ResultTry_branch_Option_tuple_u32_Allocation_CacheError(result_18);
+    if (controlflow_17.tag == 0u /* Continue */) {
+        option_20 = controlflow_17.is.Continue.field_0;
+    } else {
+        return core_result_ResultFromResidualErrResidual_from_residual_Option_Entry_u64_CacheError_CacheError(controlflow_17.is.Break.field_0);
+    }
+    option_16 = option_20;
+    if (option_16.tag == 1u /* Some */) {
+        n_9 = option_16.Some.field_0.field_0;
+        allocation_10 = option_16.Some.field_0.field_1;
+    } else {
+        result.tag = 0u;
+        result.is.Ok.field_0 = new_Option_Entry_u64_None();
+        return result;
+    }
+    entry_13 = new_atlas_entries_Entry_u64(key, size, n_9, allocation_10.id, allocation_10.rectangle, 0u, frame);
+    result_24 = atlas_entries_entries_Entries_push_u64_BuildHasherDefault_FoldHasher_FoldHasher(entries, entry_13);
+    if (result_24.tag == 0u /* Ok */) {
+        result_27.tag = 0u;
+        result_27.is.Ok.field_0 = new_Option_Entry_u64_Some(new_atlas_entries_Entry_u64(entry_13.key, entry_13.size, entry_13.page,
+                entry_13.id, entry_13.rectangle, result_24.is.Ok.field_0, entry_13.frame));
+    } else {
+        atlas_cache_rooms_Rooms_free(rooms, n_9, allocation_10.id);
+        result_27.tag = 1u;
+        result_27.is.Err.field_0 = result_24.is.Err.field_0;
+    }
+    return result_27;
 }
 
 /* core/src/result.rt */
-SMALL Result_Option_Entry_u64_CacheError core_result_ResultFromResidualErrResidual_from_residual_Option_Entry_u64_CacheError_CacheError(ErrResidual_CacheError residual) {
-    Result_Option_Entry_u64_CacheError result;
+SMALL ControlFlow_ErrResidual_CacheError_Option_Entry_u64 core_result_ResultTry_branch_Option_Entry_u64_CacheError(const Result_Option_Entry_u64_CacheError self) {
+    ControlFlow_ErrResidual_CacheError_Option_Entry_u64 controlflow_4;
+    if (self.tag == 0u /* Ok */) {
+        controlflow_4.tag = 0u;
+        controlflow_4.is.Continue.field_0 = self.is.Ok.field_0;
+    } else {
+        controlflow_4.tag = 1u;
+        controlflow_4.is.Break.field_0 = new_ErrResidual_CacheError(self.is.Err.field_0);
+    }
+    return controlflow_4;
+}
+
+/* core/src/result.rt */
+SMALL Result_Option_Place_CacheError core_result_ResultFromResidualErrResidual_from_residual_Option_Place_CacheError_CacheError(ErrResidual_CacheError residual) {
     atlas_entries_CacheError cacheerror_2;
     cacheerror_2 = core_convert_AnyFrom_from_CacheError(residual.field_0);
-    result.tag = 1u;
-    result.is.Err.field_0 = cacheerror_2;
-    return result;
+    return new_Result_Option_Place_CacheError_Err(cacheerror_2);
 }
 
-/* The first page that isn't at its largest, and its size.
+/* Whether there are as many pages as the options allow, each at its largest.
  * crates/atlas_cache/src/rooms.rt
  */
-SMALL Option_tuple_u64_Size atlas_cache_rooms_first_to_grow(slice_AtlasAllocator pages, atlas_model_Size largest) {
-    uint64_t n_3;
-    atlas_model_Size size_4;
-    uint64_t n_5;
-    bool is_12;
-    n_3 = 0u;
-    n_5 = pages.len;
-    for (;;) {
-        if (!(n_3 < n_5)) {
-            break;
-        }
-        size_4 = atlas_allocator_atlas_AtlasAllocator_size(((atlas_allocator_AtlasAllocator *)pages.at + n_3));
-        is_12 = atlas_cache_rooms_is_largest(size_4, largest);
-        if (!is_12) {
-            return new_Option_tuple_u64_Size_Some(new_tuple_u64_Size(n_3, size_4));
-        }
-        n_3 = n_3 + 1u;
-    }
-    return new_Option_tuple_u64_Size_None();
-}
-
-/* core/src/option.rt */
-SMALL bool core_option_Option_is_none_tuple_u64_Size(const Option_tuple_u64_Size *self) {
+SMALL bool atlas_cache_rooms_Rooms_are_full(const atlas_cache_Rooms *self) {
     bool is_2;
-    if (self->tag == 1u /* Some */) {
-        is_2 = false;
-    } else {
-        is_2 = true;
+    uint32_t n_3;
+    slice_AtlasAllocator slice_6;
+    Option_tuple_u64_Size option_10;
+    n_3 = atlas_cache_rooms_Rooms_len(self);
+    is_2 = n_3 == self->options.pages;
+    if (is_2) {
+        slice_6 = std_alloc_vec_derefs_VecDerefSlice_deref_AtlasAllocator(&self->pages);
+        option_10 = atlas_cache_rooms_first_to_grow(slice_6, self->options.largest_page);
+        is_2 = core_option_Option_is_none_tuple_u64_Size(&option_10);
     }
     return is_2;
 }
 
-/* The least recently used entry that lies on a page, with its number; None if none does. Each blank entry that was used
- * before it is passed once, and not again until it is used.
- * crates/atlas_cache/src/cache/holding.rt
+/* As if entries that this frame didn't use went in the order of use until a request had room on a page: of these those go that lie
+ * in the box that it fits. `Memory`, before anything changes, if room for their changes is refused.
+ * crates/atlas_cache/src/cache/vacating.rt
  */
-SMALL Option_tuple_u32_Entry_u64 atlas_cache_cache_holding_oldest_lying_u64_BuildHasherDefault_FoldHasher_FoldHasher(atlas_entries_Entries_u64_BuildHasherDefault_FoldHasher_FoldHasher *entries) {
-    Option_tuple_u32_Entry_u64 result;
-    Option_u32 option_2;
-    uint32_t n_3;
+SMALL Result_Vacated_CacheError atlas_cache_cache_TextureCache_vacate_u64_BuildHasherDefault_FoldHasher_FoldHasher(atlas_cache_TextureCache_u64_BuildHasherDefault_FoldHasher_FoldHasher *self, atlas_model_Size asked, Vec_Slot *changes) {
     atlas_entries_Entry_u64 entry_4;
-    uint64_t n_8;
-    uint64_t n_9;
-    bool is_21;
-    atlas_entries_entries_Entries_prove_kept_u64_BuildHasherDefault_FoldHasher_FoldHasher(entries);
-    option_2 = atlas_entries_entries_Entries_unpassed_u64_BuildHasherDefault_FoldHasher_FoldHasher(entries);
-    n_8 = 0u;
-    n_9 = atlas_entries_entries_Entries_len_u64_BuildHasherDefault_FoldHasher_FoldHasher(entries);
-    for (;;) {
-        if (!(n_8 < n_9)) {
-            break;
-        }
-        if (option_2.tag == 1u /* Some */) {
-            n_3 = option_2.Some.field_0;
-        } else {
-            result.tag = 0u;
-            return result;
-        }
-        entry_4 = atlas_entries_entries_Entries_entry_u64_BuildHasherDefault_FoldHasher_FoldHasher(entries, n_3);
-        is_21 = atlas_entries_entries_Entry_is_blank_u64(&entry_4);
-        if (!is_21) {
-            result.tag = 1u;
-            result.Some.field_0 = new_tuple_u32_Entry_u64(n_3, entry_4);
-            return result;
-        }
-        atlas_entries_entries_Entries_pass_u64_BuildHasherDefault_FoldHasher_FoldHasher(entries, n_3);
-        option_2 = atlas_entries_entries_Entries_newer_u64_BuildHasherDefault_FoldHasher_FoldHasher(entries, n_3);
-        n_8 = n_8 + 1u;
+    Result_Option_Vacancy result_5;
+    Option_Vacancy option_6;
+    atlas_cache_Vacancy vacancy_7;
+    Option_tuple_u32_Entry_u64 option_12;
+    ControlFlow controlflow_24;
+    Result result_25;
+    uint64_t n_27;
+    atlas_cache_rooms_Rooms_prove_pages(&self->rooms);
+    option_12 = atlas_cache_cache_holding_oldest_lying_u64_BuildHasherDefault_FoldHasher_FoldHasher(&self->entries);
+    if (option_12.tag == 1u /* Some */) {
+        entry_4 = option_12.Some.field_0.field_1;
+    } else {
+        return new_Result_Vacated_CacheError_Ok(new_atlas_cache_Vacated_Crowded());
     }
-    result.tag = 0u;
-    return result;
-}
-
-/* The same, with nothing shown before. An error is a refusal of memory for marks of slots.
- * crates/atlas_cache/src/cache/vacating.rt
- */
-SMALL Result_Option_Vacancy atlas_cache_cache_vacating_find_vacancy_u64_BuildHasherDefault_FoldHasher_FoldHasher(const atlas_cache_Rooms *rooms, const atlas_entries_Entries_u64_BuildHasherDefault_FoldHasher_FoldHasher *entries, Vec_Slot *marks, uint64_t frame, atlas_model_Size asked) {
-    ControlFlow controlflow_8;
-    Result result_9;
-    Option_Vacancy option_11;
-    result_9 = atlas_cache_rooms_Rooms_show_none_on_all(rooms, marks);
-    controlflow_8 = core_result_ResultTry_branch(result_9);
-    if (!(controlflow_8.tag == 0u /* Continue */)) {
-        return core_result_ResultFromResidualErrResidual_from_residual_Option_Vacancy();
+    if (entry_4.frame == self->frame) {
+        return new_Result_Vacated_CacheError_Ok(new_atlas_cache_Vacated_Crowded());
     }
-    option_11 = atlas_cache_cache_vacating_first_vacancy_u64_BuildHasherDefault_FoldHasher_FoldHasher(rooms, entries, marks, frame, asked);
-    return new_Result_Option_Vacancy_Ok(option_11);
-}
-
-/* How many of so many of the least recently used entries lie on a page inside a box.
- * crates/atlas_cache/src/cache/vacating.rt
- */
-SMALL uint64_t atlas_cache_cache_vacating_inside_u64_BuildHasherDefault_FoldHasher_FoldHasher(const atlas_entries_Entries_u64_BuildHasherDefault_FoldHasher_FoldHasher *entries, uint64_t count, uint32_t page, const atlas_model_Rectangle *area) {
-    Option_u32 option_5;
-    uint64_t n_6;
-    uint64_t n_7;
-    uint32_t n_8;
-    atlas_entries_Entry_u64 entry_9;
-    atlas_entries_entries_Entries_prove_kept_u64_BuildHasherDefault_FoldHasher_FoldHasher(entries);
-    option_5 = atlas_entries_entries_Entries_oldest_u64_BuildHasherDefault_FoldHasher_FoldHasher(entries);
-    n_6 = 0u;
-    n_7 = 0u;
-    for (;;) {
-        if (!(n_7 < count)) {
-            break;
-        }
-        if (option_5.tag == 1u /* Some */) {
-            n_8 = option_5.Some.field_0;
-        } else {
-            return n_6;
-        }
-        entry_9 = atlas_entries_entries_Entries_entry_u64_BuildHasherDefault_FoldHasher_FoldHasher(entries, n_8);
-        if (atlas_cache_cache_vacating_lies_in_u64(&entry_9, page, area)) {
-            n_6 = n_6 + 1u;
-        }
-        option_5 = atlas_entries_entries_Entries_newer_u64_BuildHasherDefault_FoldHasher_FoldHasher(entries, n_8);
-        n_7 = n_7 + 1u;
+    result_5 = atlas_cache_cache_vacating_find_vacancy_u64_BuildHasherDefault_FoldHasher_FoldHasher(&self->rooms, &self->entries,
+            &self->marks, self->frame, asked);
+    if (result_5.tag == 0u /* Ok */) {
+        option_6 = result_5.Ok.field_0;
+    } else {
+        return new_Result_Vacated_CacheError_Ok(new_atlas_cache_Vacated_Unmarked());
     }
-    return n_6;
+    if (option_6.tag == 1u /* Some */) {
+        vacancy_7 = option_6.Some.field_0;
+    } else {
+        return new_Result_Vacated_CacheError_Ok(new_atlas_cache_Vacated_Crowded());
+    }
+    n_27 = atlas_cache_cache_vacating_inside_u64_BuildHasherDefault_FoldHasher_FoldHasher(&self->entries, vacancy_7.count, vacancy_7.page,
+            &vacancy_7.area);
+    result_25 = std_alloc_vec_Vec_reserve_CacheChange_u64(changes, n_27);
+    controlflow_24 = core_result_ResultTry_branch(result_25);
+    if (!(controlflow_24.tag == 0u /* Continue */)) {
+        return core_result_ResultFromResidualErrResidual_from_residual_Vacated_CacheError();
+    }
+    atlas_cache_cache_vacating_clear_u64_BuildHasherDefault_FoldHasher_FoldHasher(&self->rooms, &self->entries, &self->counts, self->frame,
+            &vacancy_7, changes);
+    return new_Result_Vacated_CacheError_Ok(new_atlas_cache_Vacated_Room(vacancy_7.page));
 }
 
 /* core/src/result.rt */
-SMALL Result_Vacated_CacheError core_result_ResultFromResidualErrResidual_from_residual_Vacated_CacheError(void) {
+SMALL ControlFlow_ErrResidual_CacheError_Vacated core_result_ResultTry_branch_Vacated_CacheError(Result_Vacated_CacheError self) {
+    ControlFlow_ErrResidual_CacheError_Vacated controlflow_4;
+    if (self.tag == 0u /* Ok */) {
+        controlflow_4 = new_ControlFlow_ErrResidual_CacheError_Vacated_Continue(self.is.Ok.field_0);
+    } else {
+        controlflow_4 = new_ControlFlow_ErrResidual_CacheError_Vacated_Break(new_ErrResidual_CacheError(self.is.Err.field_0));
+    }
+    return controlflow_4;
+}
+
+/* core/src/result.rt */
+SMALL Result_Option_Inserted_CacheError core_result_ResultFromResidualErrResidual_from_residual_Option_Inserted_CacheError_CacheError(ErrResidual_CacheError residual) {
+    atlas_entries_CacheError cacheerror_2;
+    cacheerror_2 = core_convert_AnyFrom_from_CacheError(residual.field_0);
+    return new_Result_Option_Inserted_CacheError_Err(cacheerror_2);
+}
+
+/* core/src/result.rt */
+SMALL Result_Option_u32_CacheError core_result_ResultFromResidualErrResidual_from_residual_Option_u32_CacheError(void) {
     atlas_entries_CacheError cacheerror_2;
     cacheerror_2 = atlas_entries_error_CacheErrorFromAllocError_from();
-    return new_Result_Vacated_CacheError_Err(cacheerror_2);
+    return new_Result_Option_u32_CacheError_Err(cacheerror_2);
 }
 
-/* Of so many of the least recently used entries those go that lie on a page inside a box.
- * crates/atlas_cache/src/cache/vacating.rt
- */
-SMALL void atlas_cache_cache_vacating_clear_u64_BuildHasherDefault_FoldHasher_FoldHasher(atlas_cache_Rooms *rooms,
-        atlas_entries_Entries_u64_BuildHasherDefault_FoldHasher_FoldHasher *entries, atlas_cache_Counts *counts, uint64_t frame,
-        const atlas_cache_Vacancy *vacancy, Vec_Slot *changes) {
-    Option_u32 option_7;
-    uint64_t n_8;
-    uint32_t n_9;
-    uint64_t n_11;
-    (void)frame;
-    option_7 = atlas_entries_entries_Entries_oldest_u64_BuildHasherDefault_FoldHasher_FoldHasher(entries);
-    n_8 = 0u;
-    n_11 = vacancy->count;
-    for (;;) {
-        if (!(n_8 < n_11)) {
-            break;
-        }
-        atlas_entries_entries_Entries_prove_kept_u64_BuildHasherDefault_FoldHasher_FoldHasher(entries);
-        if (option_7.tag == 1u /* Some */) {
-            n_9 = option_7.Some.field_0;
-        } else {
-            return;
-        }
-        option_7 = atlas_entries_entries_Entries_newer_u64_BuildHasherDefault_FoldHasher_FoldHasher(entries, n_9);
-        atlas_cache_cache_vacating_clear_one_u64_BuildHasherDefault_FoldHasher_FoldHasher(rooms, entries, counts, n_9, vacancy, changes);
-        n_8 = n_8 + 1u;
-    }
-}
-
-/* The size that a page grows to.
+/* The first page that isn't at its largest grows: the page, and its size from now on, in pixels. Its smaller side,
+ * the width if they are equal, is doubled, but no further than the largest page's, or the other side if that one
+ * is at its largest. None exactly if each page is at its largest. No rectangle moves, and at most 3 more slots of the page are
+ * used. `Slots` if that page has too few of them, `Memory` if memory is refused. Unless a page grows, nothing changes.
  * crates/atlas_cache/src/rooms.rt
  */
-SMALL atlas_model_Size atlas_cache_rooms_grown(atlas_model_Size size, atlas_model_Size largest) {
+SMALL Result_Option_tuple_u32_Size_CacheError atlas_cache_rooms_Rooms_grow_page(atlas_cache_Rooms *self) {
+    uint64_t n_2;
     atlas_model_Size size_3;
-    bool is_5;
-    uint32_t n_7;
-    uint32_t n_8;
-    if ((int32_t)size.width < (int32_t)largest.width) {
-        is_5 = (int32_t)size.width <= (int32_t)size.height;
-        if (!is_5) {
-            is_5 = (int32_t)largest.height <= (int32_t)size.height;
-        }
-        if (is_5) {
-            n_7 = atlas_cache_rooms_doubled(size.width, largest.width);
-            size_3 = new_atlas_model_Size(n_7, size.height);
-            goto after_1;
-        }
+    atlas_model_Size size_4;
+    Option_tuple_u64_Size option_6;
+    slice_AtlasAllocator slice_7;
+    Result_AtlasError result_12;
+    atlas_allocator_AtlasAllocator *at_13;
+    atlas_entries_CacheError cacheerror_16;
+    atlas_cache_Known known_17;
+    const atlas_cache_Known *at_18;
+    atlas_cache_Known *at_21;
+    uint32_t n_23;
+    slice_7 = std_alloc_vec_derefs_VecDerefSlice_deref_AtlasAllocator(&self->pages);
+    option_6 = atlas_cache_rooms_first_to_grow(slice_7, self->options.largest_page);
+    if (option_6.tag == 1u /* Some */) {
+        n_2 = option_6.Some.field_0.field_0;
+        size_3 = option_6.Some.field_0.field_1;
+    } else {
+        return new_Result_Option_tuple_u32_Size_CacheError_Ok(new_Option_tuple_u32_Size_None());
     }
-    n_8 = atlas_cache_rooms_doubled(size.height, largest.height);
-    size_3 = new_atlas_model_Size(size.width, n_8);
-after_1:;
-    return size_3;
-}
-
-/* Appends x. There is spare capacity.
- * std_alloc/src/vec/methods.rt
- */
-SMALL void std_alloc_vec_Vec_put_CacheChange_u64(Vec_Slot *self, const atlas_cache_CacheChange_u64 x) {
-    uint64_t n_3;
-    n_3 = self->len;
-    *((atlas_cache_CacheChange_u64 *)self->ptr + n_3) = x;
-    self->len = n_3 + 1u;
-}
-
-/* std_alloc/src/vec/methods.rt */
-SMALL Result std_alloc_vec_Vec_reserve_Refusals(Vec_Slot *self, uint64_t additional) {
-    bool is_3;
-    is_3 = std_alloc_vec_Vec_grow_Refusals(self, additional);
-    if (!is_3) {
-        return new_Result_Err();
+    size_4 = atlas_cache_rooms_grown(size_3, self->options.largest_page);
+    at_13 = std_alloc_vec_lends_VecIndexMutUsize_index_mut_AtlasAllocator(&self->pages, n_2);
+    result_12 = atlas_allocator_atlas_AtlasAllocator_grow(at_13, size_4);
+    if (result_12.tag == 1u /* Err */) {
+        cacheerror_16 = atlas_cache_rooms_refusal(result_12.Err.field_0);
+        return new_Result_Option_tuple_u32_Size_CacheError_Err(cacheerror_16);
     }
-    return new_Result_Ok();
+    at_18 = std_alloc_vec_derefs_VecIndexUsize_index_Known(&self->known, n_2);
+    known_17 = atlas_cache_rooms_asking_changed(at_18->live);
+    at_21 = std_alloc_vec_lends_VecIndexMutUsize_index_mut_Known(&self->known, n_2);
+    *at_21 = known_17;
+    n_23 = atlas_cache_rooms_number(n_2, self->options.pages);
+    return new_Result_Option_tuple_u32_Size_CacheError_Ok(new_Option_tuple_u32_Size_Some(new_tuple_u32_Size(n_23, size_4)));
 }
 
 /* core/src/result.rt */
-SMALL Result_Option_tuple_u32_Size_CacheError core_result_ResultFromResidualErrResidual_from_residual_Option_tuple_u32_Size_CacheError(void) {
-    atlas_entries_CacheError cacheerror_2;
-    cacheerror_2 = atlas_entries_error_CacheErrorFromAllocError_from();
-    return new_Result_Option_tuple_u32_Size_CacheError_Err(cacheerror_2);
+SMALL ControlFlow_ErrResidual_CacheError_Option_tuple_u32_Size core_result_ResultTry_branch_Option_tuple_u32_Size_CacheError(Result_Option_tuple_u32_Size_CacheError self) {
+    ControlFlow_ErrResidual_CacheError_Option_tuple_u32_Size controlflow_4;
+    if (self.tag == 0u /* Ok */) {
+        controlflow_4 = new_ControlFlow_ErrResidual_CacheError_Option_tuple_u32_Size_Continue(self.is.Ok.field_0);
+    } else {
+        controlflow_4 = new_ControlFlow_ErrResidual_CacheError_Option_tuple_u32_Size_Break(new_ErrResidual_CacheError(self.is.Err.field_0));
+    }
+    return controlflow_4;
 }
 
 /* core/src/result.rt */
-SMALL Result_Option_tuple_u32_Size_CacheError core_result_ResultFromResidualErrResidual_from_residual_Option_tuple_u32_Size_AllocFailed_AtlasAllocator_CacheError(const ErrResidual_AllocFailed_AtlasAllocator residual) {
+SMALL Result_Option_u32_CacheError core_result_ResultFromResidualErrResidual_from_residual_Option_u32_CacheError_CacheError(ErrResidual_CacheError residual) {
     atlas_entries_CacheError cacheerror_2;
-    cacheerror_2 = atlas_entries_error_CacheErrorFromAllocFailed_from_AtlasAllocator(residual.field_0);
-    return new_Result_Option_tuple_u32_Size_CacheError_Err(cacheerror_2);
+    cacheerror_2 = core_convert_AnyFrom_from_CacheError(residual.field_0);
+    return new_Result_Option_u32_CacheError_Err(cacheerror_2);
 }
 
-/* A push that cannot fail, since there is spare capacity.
- * std_alloc/src/vec/methods.rt
+/* A new page with nothing on it comes last: its number and its size, in pixels. None exactly if there are as many
+ * as the options allow. No rectangle moves. `Memory` is the only error. Unless a page is added, nothing changes.
+ * crates/atlas_cache/src/rooms.rt
  */
-SMALL void std_alloc_vec_Vec_push_reserved_Refusals(Vec_Slot *self, atlas_cache_Refusals value) {
-    std_alloc_vec_Vec_put_Refusals(self, value);
+SMALL Result_Option_tuple_u32_Size_CacheError atlas_cache_rooms_Rooms_add_page(atlas_cache_Rooms *self) {
+    uint32_t n_2;
+    ControlFlow controlflow_15;
+    Result result_16;
+    Result_AtlasAllocator_AtlasError result_18;
+    Result_Option_tuple_u32_Size_CacheError result_21;
+    ControlFlow_ErrResidual_AllocFailed_AtlasAllocator controlflow_22;
+    Result_AllocFailed_AtlasAllocator result_23;
+    atlas_cache_Known known_29;
+    n_2 = atlas_cache_rooms_Rooms_len(self);
+    if (n_2 == self->options.pages) {
+        return new_Result_Option_tuple_u32_Size_CacheError_Ok(new_Option_tuple_u32_Size_None());
+    }
+    (void)std_alloc_vec_Vec_allocator_FreeBox(&self->pages);
+    result_16 = std_alloc_vec_Vec_reserve_Known(&self->known, 1u);
+    controlflow_15 = core_result_ResultTry_branch(result_16);
+    if (!(controlflow_15.tag == 0u /* Continue */)) {
+        return core_result_ResultFromResidualErrResidual_from_residual_Option_tuple_u32_Size_CacheError();
+    }
+    result_18 = atlas_allocator_atlas_AtlasAllocator_with_options(self->options.page, &self->options.atlas);
+    if (result_18.tag == 0u /* Ok */) {
+        result_23 = std_alloc_vec_Vec_push_AtlasAllocator(&self->pages, result_18.is.Ok.field_0);
+        controlflow_22 = core_result_ResultTry_branch_AllocFailed_AtlasAllocator(result_23);
+        if (!(controlflow_22.tag == 0u /* Continue */)) {
+            return core_result_ResultFromResidualErrResidual_from_residual_Option_tuple_u32_Size_AllocFailed_AtlasAllocator_CacheError(controlflow_22.Break.field_0);
+        }
+        known_29 = atlas_cache_rooms_asking_changed(0u);
+        std_alloc_vec_Vec_push_reserved_Known(&self->known, known_29);
+        result_21 = new_Result_Option_tuple_u32_Size_CacheError_Ok(new_Option_tuple_u32_Size_Some(new_tuple_u32_Size(n_2,
+                self->options.page)));
+    } else {
+        result_21 = new_Result_Option_tuple_u32_Size_CacheError_Err(new_atlas_entries_CacheError_Memory());
+    }
+    return result_21;
+}
+
+/* Of the entries that lie on a page the least recently used one goes, if this frame didn't use it: its page.
+ * crates/atlas_cache/src/cache.rt
+ */
+SMALL Option_u32 atlas_cache_cache_TextureCache_evict_u64_BuildHasherDefault_FoldHasher_FoldHasher(atlas_cache_TextureCache_u64_BuildHasherDefault_FoldHasher_FoldHasher *self, Vec_Slot *changes) {
+    uint32_t n_3;
+    atlas_entries_Entry_u64 entry_4;
+    atlas_cache_Place place_5;
+    Option_tuple_u32_Entry_u64 option_7;
+    atlas_cache_CacheOptions cacheoptions_20;
+    uint64_t n_25;
+    option_7 = atlas_cache_cache_holding_oldest_lying_u64_BuildHasherDefault_FoldHasher_FoldHasher(&self->entries);
+    if (option_7.tag == 1u /* Some */) {
+        entry_4 = option_7.Some.field_0.field_1;
+        n_3 = option_7.Some.field_0.field_0;
+    } else {
+        return new_Option_u32_None();
+    }
+    if (entry_4.frame == self->frame) {
+        return new_Option_u32_None();
+    }
+    atlas_cache_cache_holding_take_out_u64_BuildHasherDefault_FoldHasher_FoldHasher(&self->rooms, &self->entries, n_3, entry_4);
+    n_25 = atlas_cache_counts_count(self->counts.evictions);
+    self->counts.evictions = n_25;
+    cacheoptions_20 = atlas_cache_rooms_Rooms_options(&self->rooms);
+    place_5 = atlas_cache_cache_holding_place_of_u64(entry_4, &cacheoptions_20);
+    std_alloc_vec_Vec_push_reserved_CacheChange_u64(changes, new_atlas_cache_CacheChange_u64_Evicted(entry_4.key, place_5));
+    return new_Option_u32_Some(entry_4.page);
 }
 
 /* An entry leaves the ring, and then stands before the numbers that belong to none.
@@ -36008,13 +36773,13 @@ SMALL void std_alloc_vec_Vec_clear_u32_Later_2(Vec_u64_Later *self) {
 }
 
 /* std_alloc/src/vec/ends.rt */
-SMALL void std_alloc_vec_Vec_truncate_Link_6(Vec_Slot *self, uint64_t n) {
+SMALL void std_alloc_vec_Vec_truncate_Link_8(Vec_Slot *self, uint64_t n) {
     uint64_t n_3;
     n_3 = std_alloc_vec_Vec_len_Allocation(self);
     if (n_3 <= n) {
         return;
     }
-    std_alloc_vec_Vec_truncate_within_Link_6(self, n);
+    std_alloc_vec_Vec_truncate_within_Link_8(self, n);
 }
 
 /* std_alloc/src/vec/ends.rt */
@@ -36029,42 +36794,55 @@ SMALL void std_alloc_vec_Vec_truncate_within_Entry_u64_2(Vec_Slot *self, uint64_
     std_alloc_vec_Vec_attach_CacheChange_u64(self, slots_4, tuple_7.field_1, n);
 }
 
-/* How far `to` lies beyond `from`, where a position below 0 counts as 0.
- * crates/atlas_cache/src/rooms/usable.rt
+/* Appends x. There is spare capacity.
+ * std_alloc/src/vec/methods.rt
  */
-SMALL uint64_t atlas_cache_rooms_usable_extent(uint32_t from, uint32_t to) {
-    uint32_t n_3;
-    uint32_t n_5;
-    n_3 = core_int_i32_max(to, 0u);
-    n_5 = core_int_i32_max(from, 0u);
-    return core_int_u64_saturating_sub((uint64_t)(int64_t)(int32_t)n_3, (uint64_t)(int64_t)(int32_t)n_5);
+SMALL void std_alloc_vec_Vec_put_CacheChange_u64(Vec_Slot *self, const atlas_cache_CacheChange_u64 x) {
+    uint64_t n_3;
+    n_3 = self->len;
+    *((atlas_cache_CacheChange_u64 *)self->ptr + n_3) = x;
+    self->len = n_3 + 1u;
 }
 
-/* Asks a page, as `allocate` does. It isn't searched if it is known to have no room: it had none for a size in `refused`, which
- * isn't larger. From then on `refused` is what it has no room for: this size and one of those before, or `NOTHING` where it granted it.
+/* Asks a page, as `allocate` does. It isn't searched if it is known to have no room: it had none for a size in `known`, which
+ * isn't larger. From then on `known` is what is known of the page: that it has none for this size either, where it granted nothing.
  * crates/atlas_cache/src/rooms/asking.rt
  */
-SMALL Result_Option_Allocation_AtlasError atlas_cache_rooms_asking_ask(atlas_allocator_AtlasAllocator *page, atlas_cache_Refusals *refused,
+SMALL Result_Option_Allocation_AtlasError atlas_cache_rooms_asking_ask(atlas_allocator_AtlasAllocator *page, atlas_cache_Known *known,
         atlas_model_Size asked) {
-    Result_Option_Allocation_AtlasError result_4;
-    atlas_cache_Refusals refusals_13;
+    atlas_model_Allocation allocation_5;
+    Result_Option_Allocation_AtlasError result_15;
+    Result_Option_Allocation_AtlasError result_17;
+    atlas_cache_Known known_18;
+    atlas_cache_Known known_21;
+    uint64_t n_22;
+    uint64_t n_23;
     atlas_allocator_atlas_AtlasAllocator_prove_sound(page);
-    if (atlas_cache_rooms_asking_is_no_smaller(asked, refused->first)) {
+    (void)atlas_allocator_atlas_AtlasAllocator_size(page);
+    if (atlas_cache_rooms_asking_is_no_smaller(asked, known->first)) {
         return new_Result_Option_Allocation_AtlasError_Ok(new_Option_Allocation_None());
     }
-    if (atlas_cache_rooms_asking_is_no_smaller(asked, refused->second)) {
+    if (atlas_cache_rooms_asking_is_no_smaller(asked, known->second)) {
         return new_Result_Option_Allocation_AtlasError_Ok(new_Option_Allocation_None());
     }
-    result_4 = atlas_allocator_atlas_AtlasAllocator_allocate(page, asked);
-    if (result_4.tag == 0u /* Ok */) {
-        if (result_4.is.Ok.field_0.tag == 0u /* None */) {
-            refusals_13 = atlas_cache_rooms_asking_with(*refused, asked);
-            *refused = refusals_13;
-            return new_Result_Option_Allocation_AtlasError_Ok(new_Option_Allocation_None());
+    result_15 = atlas_allocator_atlas_AtlasAllocator_allocate(page, asked);
+    if (result_15.tag == 0u /* Ok */) {
+        if (result_15.is.Ok.field_0.tag == 0u /* None */) {
+            known_18 = atlas_cache_rooms_asking_with(*known, asked);
+            *known = known_18;
+            result_17 = new_Result_Option_Allocation_AtlasError_Ok(new_Option_Allocation_None());
+        } else {
+            allocation_5 = result_15.is.Ok.field_0.Some.field_0;
+            n_22 = known->live;
+            n_23 = atlas_cache_rooms_repacking_area_of(allocation_5.rectangle);
+            known_21 = atlas_cache_rooms_asking_changed(n_22 + n_23);
+            *known = known_21;
+            result_17 = new_Result_Option_Allocation_AtlasError_Ok(new_Option_Allocation_Some(allocation_5));
         }
+    } else {
+        result_17 = new_Result_Option_Allocation_AtlasError_Err(result_15.is.Err.field_0);
     }
-    *refused = new_atlas_cache_Refusals(new_atlas_model_Size(0u, 0u), new_atlas_model_Size(0u, 0u));
-    return result_4;
+    return result_17;
 }
 
 /* `Memory`, whatever was asked for.
@@ -36157,7 +36935,7 @@ SMALL void std_alloc_vec_Vec_destroy_empty_Slot_3(Vec_Slot self) {
 
 /* std_alloc/src/vec/ends.rt */
 SMALL void std_alloc_vec_Vec_clear_Link_9(Vec_Slot *self) {
-    std_alloc_vec_Vec_truncate_Link_9(self, 0u);
+    std_alloc_vec_Vec_truncate_Link_10(self, 0u);
 }
 
 /* Frees an empty Vec, also where `T` is not `Drop`.
@@ -36165,6 +36943,19 @@ SMALL void std_alloc_vec_Vec_clear_Link_9(Vec_Slot *self) {
  */
 SMALL void std_alloc_vec_Vec_destroy_empty_Link_6(Vec_Slot self) {
     std_alloc_vec_Vec_free_block_Link(self);
+    atlas_cache_Destruct_none_drop();
+}
+
+/* std_alloc/src/vec/ends.rt */
+SMALL void std_alloc_vec_Vec_clear_Marks_5(Vec_Slot *self) {
+    std_alloc_vec_Vec_truncate_Marks_5(self, 0u);
+}
+
+/* Frees an empty Vec, also where `T` is not `Drop`.
+ * std_alloc/src/vec/methods.rt
+ */
+SMALL void std_alloc_vec_Vec_destroy_empty_Marks_5(Vec_Slot self) {
+    std_alloc_vec_Vec_free_block_Marks(self);
     atlas_cache_Destruct_none_drop();
 }
 
@@ -36242,16 +37033,16 @@ SMALL void std_alloc_room_AllocErrorFromAllocFailed_from_AtlasAllocator(const Al
 /* Moves the elements to a larger block, of capacity `cap`, which may be the one that they are in, and returns whether it could.
  * std_alloc/src/vec/methods.rt
  */
-SMALL bool std_alloc_vec_Vec_move_to_Refusals(Vec_Slot *self, uint64_t cap) {
+SMALL bool std_alloc_vec_Vec_move_to_Known(Vec_Slot *self, uint64_t cap) {
     bool is_4;
     Result_ptr result_6;
     Result_ptr result_7;
     bool is_12;
-    is_4 = std_alloc_room_may_hold_Refusals(cap);
+    is_4 = std_alloc_room_may_hold_Known(cap);
     if (!is_4) {
         return false;
     }
-    result_7 = std_alloc_vec_resize_Refusals((const void *)&nothing, self->ptr, self->len, self->cap, cap);
+    result_7 = std_alloc_vec_resize_Known((const void *)&nothing, self->ptr, self->len, self->cap, cap);
     result_6 = result_7;
     if (result_6.tag == 0u /* Ok */) {
         self->ptr = result_6.Ok.field_0;
@@ -36266,7 +37057,7 @@ SMALL bool std_alloc_vec_Vec_move_to_Refusals(Vec_Slot *self, uint64_t cap) {
 /* Makes room for `additional` more elements, and returns whether it could.
  * std_alloc/src/vec/methods.rt
  */
-SMALL bool std_alloc_vec_Vec_grow_Refusals(Vec_Slot *self, uint64_t additional) {
+SMALL bool std_alloc_vec_Vec_grow_Known(Vec_Slot *self, uint64_t additional) {
     uint64_t n_3;
     uint64_t n_5;
     n_3 = std_alloc_vec_Vec_capacity_Slot(self);
@@ -36274,17 +37065,17 @@ SMALL bool std_alloc_vec_Vec_grow_Refusals(Vec_Slot *self, uint64_t additional) 
     if (additional <= (n_3 - n_5)) {
         return true;
     }
-    return std_alloc_vec_Vec_grow_amortized_Refusals(self, additional);
+    return std_alloc_vec_Vec_grow_amortized_Known(self, additional);
 }
 
 /* core/src/slots/bulk.rt */
-SMALL void core_slots_Slots_copy_in_Refusals(Slots_CacheChange_u64 *self, uint64_t to, slice_Refusals src) {
-    core_ptr_copy_drop_copy_bits_Refusals((void *)src.at, (void *)((uint8_t *)self->ptr + (to * sizeof(atlas_cache_Refusals))), src.len);
+SMALL void core_slots_Slots_copy_in_Known(Slots_CacheChange_u64 *self, uint64_t to, slice_Known src) {
+    core_ptr_copy_drop_copy_bits_Known((void *)src.at, (void *)((uint8_t *)self->ptr + (to * sizeof(atlas_cache_Known))), src.len);
 }
 
 /* std_alloc/src/vec/ends.rt */
-SMALL void std_alloc_vec_Vec_clear_Refusals_3(Vec_Slot *self) {
-    std_alloc_vec_Vec_truncate_Refusals_3(self, 0u);
+SMALL void std_alloc_vec_Vec_clear_Known_3(Vec_Slot *self) {
+    std_alloc_vec_Vec_truncate_Known_3(self, 0u);
 }
 
 /* std_collections/src/columns/methods.rt */
@@ -36356,12 +37147,12 @@ SMALL slice_Link_4 std_alloc_vec_Vec_as_slice_Link_2(const Vec_Slot *self) {
 }
 
 /* std_alloc/src/vec/methods.rt */
-SMALL Result_Vec_AllocId std_alloc_vec_Vec_with_capacity_Link_3(uint64_t capacity) {
+SMALL Result_Vec_AllocId std_alloc_vec_Vec_with_capacity_Link_2(uint64_t capacity) {
     Vec_Slot vec_3;
     bool is_7;
     vec_3 = std_alloc_vec_Vec_new_CacheChange_u64();
     if (capacity != 0u) {
-        is_7 = std_alloc_vec_Vec_move_to_Link_3(&vec_3, capacity);
+        is_7 = std_alloc_vec_Vec_move_to_Link_2(&vec_3, capacity);
         if (!is_7) {
             std_alloc_vec_Vec_destroy_empty_Link_5(vec_3);
             return new_Result_Vec_AllocId_Err();
@@ -36389,10 +37180,10 @@ SMALL Result std_alloc_vec_Vec_extend_from_slice_Link_2(Vec_Slot *self, slice_Li
 }
 
 /* std_alloc::vec::Vec::drop */
-SMALL void std_alloc_vec_Vec_drop_Link_12(Vec_Slot given_1) {
+SMALL void std_alloc_vec_Vec_drop_Link_11(Vec_Slot given_1) {
     Vec_Slot vec_2;
     vec_2 = given_1;
-    std_alloc_vec_Vec_clear_Link_12(&vec_2);
+    std_alloc_vec_Vec_clear_Link_11(&vec_2);
     std_alloc_vec_Vec_destroy_empty_Link_5(vec_2);
 }
 
@@ -36493,14 +37284,14 @@ SMALL void std_alloc_vec_Vec_truncate_within_AtlasAllocator_3(Vec_Slot *self, ui
 }
 
 /* std_alloc/src/vec/ends.rt */
-SMALL void std_alloc_vec_Vec_truncate_within_Refusals_2(Vec_Slot *self, uint64_t n) {
+SMALL void std_alloc_vec_Vec_truncate_within_Known_2(Vec_Slot *self, uint64_t n) {
     uint64_t n_3;
     Slots_CacheChange_u64 slots_4;
     tuple_Slots_CacheChange_u64_Spare_CacheChange_u64 tuple_7;
     n_3 = std_alloc_vec_Vec_len_Allocation(self);
     tuple_7 = std_alloc_vec_Vec_detach_CacheChange_u64(self, n_3);
     slots_4 = tuple_7.field_0;
-    std_alloc_vec_opened_drop_run_Refusals_2(&slots_4, n, n_3);
+    std_alloc_vec_opened_drop_run_Known_2(&slots_4, n, n_3);
     std_alloc_vec_Vec_attach_CacheChange_u64(self, slots_4, tuple_7.field_1, n);
 }
 
@@ -36595,7 +37386,7 @@ SMALL Result std_collections_columns_Columns_reserve_u64_u32(std_collections_Col
 /* The part of `grow` that asks the allocator, apart so that the test is inlined.
  * std_alloc/src/vec/methods.rt
  */
-SMALL bool std_alloc_vec_Vec_grow_amortized_Entry_u64(Vec_Slot *self, uint64_t additional) {
+COLD bool std_alloc_vec_Vec_grow_amortized_Entry_u64(Vec_Slot *self, uint64_t additional) {
     uint64_t n_3;
     uint64_t n_8;
     uint64_t n_11;
@@ -36668,7 +37459,7 @@ SMALL void std_alloc_vec_Vec_truncate_within_bool(Vec_Slot *self, uint64_t n) {
 /* The part of `grow` that asks the allocator, apart so that the test is inlined.
  * std_alloc/src/vec/methods.rt
  */
-SMALL bool std_alloc_vec_Vec_grow_amortized_bool(Vec_Slot *self, uint64_t additional) {
+COLD bool std_alloc_vec_Vec_grow_amortized_bool(Vec_Slot *self, uint64_t additional) {
     uint64_t n_3;
     uint64_t n_8;
     uint64_t n_11;
@@ -37462,7 +38253,7 @@ SMALL atlas_sheet_SheetError atlas_sheet_error_SheetErrorFromAllocFailed_from_Op
 /* The part of `grow` that asks the allocator, apart so that the test is inlined.
  * std_alloc/src/vec/methods.rt
  */
-SMALL bool std_alloc_vec_Vec_grow_amortized_Size(Vec_Slot *self, uint64_t additional) {
+COLD bool std_alloc_vec_Vec_grow_amortized_Size(Vec_Slot *self, uint64_t additional) {
     uint64_t n_3;
     uint64_t n_8;
     uint64_t n_11;
@@ -37889,7 +38680,7 @@ SMALL bool core_option_Option_is_some_Chosen(const Option_Chosen *self) {
 /* The numbers, without that of one group.
  * crates/atlas_sheet/src/groups.rt
  */
-PART Result_Vec_Size_SheetError atlas_sheet_groups_without(uint64_t group, slice_Option_u64 groups) {
+SMALL Result_Vec_Size_SheetError atlas_sheet_groups_without(uint64_t group, slice_Option_u64 groups) {
     Result_Vec_Size_SheetError result;
     uint64_t n_4;
     Vec_Slot vec_5;
@@ -38371,17 +39162,6 @@ SMALL uint64_t atlas_sheet_filling_from_zero(uint32_t coordinate) {
     return (uint64_t)(int64_t)(int32_t)n_2;
 }
 
-/* core/src/simd/num.rt */
-SMALL uint64_t core_int_u64_saturating_sub(uint64_t self, uint64_t second) {
-    uint64_t n_4;
-    if (second <= self) {
-        n_4 = self - second;
-    } else {
-        n_4 = 0u;
-    }
-    return n_4;
-}
-
 /* Moves the elements to a larger block, of capacity `cap`, which may be the one that they are in, and returns whether it could.
  * std_alloc/src/vec/methods.rt
  */
@@ -38525,23 +39305,6 @@ SMALL void core_mem_drop_Option_Placed(Option_Placed x) {
     guillotiere_c_Destruct_none_drop_Option_Placed(x);
 }
 
-/* std_heap/src/lib.rt */
-SMALL Result_ptr std_heap_GlobalAllocator_grow_Slot(const void *self, void *ptr, uint64_t len, uint64_t _old_cap, uint64_t new_cap) {
-    uint64_t n_6;
-    Tried tried_7;
-    Result_ptr result_13;
-    (void)self;
-    (void)_old_cap;
-    n_6 = sizeof(atlas_store_Slot);
-    tried_7 = libc_heap_rattle_realloc(ptr, len * n_6, new_cap * n_6, 4u);
-    if (tried_7.ok) {
-        result_13 = new_Result_ptr_Ok(tried_7.p);
-    } else {
-        result_13 = new_Result_ptr_Err();
-    }
-    return result_13;
-}
-
 /* std_alloc/src/vec/ends.rt */
 SMALL void std_alloc_vec_Vec_truncate_within_Slot_4(Vec_Slot *self, uint64_t n) {
     uint64_t n_3;
@@ -38596,7 +39359,7 @@ SMALL Result_ptr std_alloc_vec_resize_Link(const void *alloc, void *ptr, uint64_
 /* The part of `grow` that asks the allocator, apart so that the test is inlined.
  * std_alloc/src/vec/methods.rt
  */
-SMALL bool std_alloc_vec_Vec_grow_amortized_Link(Vec_Slot *self, uint64_t additional) {
+COLD bool std_alloc_vec_Vec_grow_amortized_Link(Vec_Slot *self, uint64_t additional) {
     uint64_t n_3;
     uint64_t n_8;
     uint64_t n_11;
@@ -38627,14 +39390,59 @@ SMALL void core_ptr_copy_drop_copy_bits_Link(void *src, void *dst, uint64_t coun
     }
 }
 
-/* std_alloc/src/vec/ends.rt */
-SMALL void std_alloc_vec_Vec_truncate_Link_7(Vec_Slot *self, uint64_t n) {
-    uint64_t n_3;
-    n_3 = std_alloc_vec_Vec_len_Allocation(self);
-    if (n_3 <= n) {
-        return;
+/* Whether an array of n values is small enough to allocate.
+ * std_alloc/src/room.rt
+ */
+SMALL bool std_alloc_room_may_hold_Marks(uint64_t n) {
+    uint64_t n_2;
+    n_2 = sizeof(atlas_search_Marks);
+    if (UINT64_C(9223372036854775807) < n) {
+        return false;
     }
-    std_alloc_vec_Vec_truncate_within_Link_7(self, n);
+    if (UINT64_C(9223372036854775807) < n_2) {
+        return false;
+    }
+    if (n_2 == 0u) {
+        return true;
+    }
+    return n <= (UINT64_C(9223372036854775807) / n_2);
+}
+
+/* Makes the buffer at ptr a larger block, for new_cap elements, which keeps its len elements. On `Err` the
+ * buffer is as it was.
+ * std_alloc/src/vec.rt
+ */
+SMALL Result_ptr std_alloc_vec_resize_Marks(const void *alloc, void *ptr, uint64_t len, uint64_t old_cap, uint64_t new_cap) {
+    Result_ptr result_9;
+    Result_ptr result_10;
+    Result_ptr result_12;
+    if (old_cap != 0u) {
+        result_9 = std_heap_GlobalAllocator_grow_Marks(alloc, ptr, len, old_cap, new_cap);
+        return result_9;
+    }
+    result_10 = std_heap_GlobalAllocator_allocate(alloc, new_cap * sizeof(atlas_search_Marks), 8u);
+    if (result_10.tag == 0u /* Ok */) {
+        result_12 = new_Result_ptr_Ok(result_10.Ok.field_0);
+    } else {
+        result_12 = new_Result_ptr_Err();
+    }
+    return result_12;
+}
+
+/* atlas_search::Destruct++none::drop */
+SMALL void atlas_search_Destruct_none_drop(void) {
+}
+
+/* std_alloc/src/vec/ends.rt */
+SMALL void std_alloc_vec_Vec_truncate_within_Link_6(Vec_Slot *self, uint64_t n) {
+    uint64_t n_3;
+    Slots_CacheChange_u64 slots_4;
+    tuple_Slots_CacheChange_u64_Spare_CacheChange_u64 tuple_7;
+    n_3 = std_alloc_vec_Vec_len_Allocation(self);
+    tuple_7 = std_alloc_vec_Vec_detach_CacheChange_u64(self, n_3);
+    slots_4 = tuple_7.field_0;
+    std_alloc_vec_opened_drop_run_Link_6(&slots_4, n, n_3);
+    std_alloc_vec_Vec_attach_CacheChange_u64(self, slots_4, tuple_7.field_1, n);
 }
 
 /* Drops the values from `from` up to `to`, in that order.
@@ -38654,6 +39462,74 @@ SMALL void std_alloc_vec_opened_drop_run_Slot_3(Slots_CacheChange_u64 *row, uint
     }
 }
 
+/* std_alloc/src/vec/ends.rt */
+SMALL void std_alloc_vec_Vec_truncate_within_Link_7(Vec_Slot *self, uint64_t n) {
+    uint64_t n_3;
+    Slots_CacheChange_u64 slots_4;
+    tuple_Slots_CacheChange_u64_Spare_CacheChange_u64 tuple_7;
+    n_3 = std_alloc_vec_Vec_len_Allocation(self);
+    tuple_7 = std_alloc_vec_Vec_detach_CacheChange_u64(self, n_3);
+    slots_4 = tuple_7.field_0;
+    std_alloc_vec_opened_drop_run_Link_7(&slots_4, n, n_3);
+    std_alloc_vec_Vec_attach_CacheChange_u64(self, slots_4, tuple_7.field_1, n);
+}
+
+/* Puts x in each place from `from` up to `to`. The loop writes nothing else, so that it can become a `memset` or vector code.
+ * std_alloc/src/vec/opened.rt
+ */
+SMALL void std_alloc_vec_opened_fill_run_Link(Slots_CacheChange_u64 *row, uint64_t from, uint64_t to, atlas_search_Link x) {
+    uint64_t n_5;
+    n_5 = from;
+    for (;;) {
+        if (!(n_5 < to)) {
+            break;
+        }
+        core_slots_Slots_put_Link(row, n_5, x);
+        n_5 = n_5 + 1u;
+    }
+}
+
+/* The set with a number.
+ * crates/atlas_search/src/masks.rt
+ */
+SMALL atlas_search_Mask atlas_search_masks_Mask_with(atlas_search_Mask self, uint64_t k) {
+    return new_atlas_search_Mask(self.bits | (UINT64_C(1) << (k & 63u)));
+}
+
+/* Drops the values from `from` up to `to`, in that order.
+ * std_alloc/src/vec/opened.rt
+ */
+SMALL void std_alloc_vec_opened_drop_run_Link_5(Slots_CacheChange_u64 *row, uint64_t from, uint64_t to) {
+    uint64_t n_4;
+    atlas_search_Link link_7;
+    n_4 = from;
+    for (;;) {
+        if (!(n_4 < to)) {
+            break;
+        }
+        link_7 = core_slots_Slots_take_Link(row, n_4);
+        core_mem_drop_Link_5(link_7);
+        n_4 = n_4 + 1u;
+    }
+}
+
+/* Drops the values from `from` up to `to`, in that order.
+ * std_alloc/src/vec/opened.rt
+ */
+SMALL void std_alloc_vec_opened_drop_run_Marks_4(Slots_CacheChange_u64 *row, uint64_t from, uint64_t to) {
+    uint64_t n_4;
+    atlas_search_Marks marks_7;
+    n_4 = from;
+    for (;;) {
+        if (!(n_4 < to)) {
+            break;
+        }
+        marks_7 = core_slots_Slots_take_Marks(row, n_4);
+        core_mem_drop_Marks_4(marks_7);
+        n_4 = n_4 + 1u;
+    }
+}
+
 /* guillotiere_c::Destruct++none::drop */
 SMALL void guillotiere_c_Destruct_none_drop_Slot(atlas_store_Slot given_1) {
     (void)given_1;
@@ -38661,6 +39537,11 @@ SMALL void guillotiere_c_Destruct_none_drop_Slot(atlas_store_Slot given_1) {
 
 /* guillotiere_c::Destruct++none::drop */
 SMALL void guillotiere_c_Destruct_none_drop_Link(atlas_search_Link given_1) {
+    (void)given_1;
+}
+
+/* guillotiere_c::Destruct++none::drop */
+SMALL void guillotiere_c_Destruct_none_drop_Marks(const atlas_search_Marks given_1) {
     (void)given_1;
 }
 
@@ -38729,29 +39610,17 @@ SMALL void atlas_search_heap_relink_Slot(slice_Slot_2 entries, atlas_search_Link
     atlas_store_slots_entry_SlotLinked_set_links((entries.at + (uint64_t)at.number), up, left, right);
 }
 
-/* Another slot, or none, comes first in the list of this number, which has a slot.
+/* Another slot, or none, comes first in the list of this number, which has a slot. In a table that hasn't grown it is
+ * one of the first eight, and comes first in no other list, or it is none.
  * crates/atlas_search/src/table.rt
  */
 SMALL void atlas_search_table_Table_set_first(atlas_search_Table *self, uint64_t number, atlas_search_Link first) {
     uint64_t n_4;
-    atlas_search_Link *at_5;
-    const atlas_search_Link *at_10;
-    at_5 = std_alloc_vec_lends_VecIndexMutUsize_index_mut_Link(&self->heads, number);
-    *at_5 = first;
-    if (first.number != 4294967295u) {
-        return;
-    }
-    if (self->emptied != number) {
-        n_4 = self->emptied;
-        self->emptied = number;
-        if (n_4 < 2704u) {
-            at_10 = std_alloc_vec_derefs_VecIndexUsize_index_Link(&self->heads, n_4);
-            if (at_10->number == 4294967295u) {
-                atlas_search_marks_Marks_unmark(&self->marks, new_atlas_search_Place(n_4 / 52u, n_4 % 52u));
-                goto after_1;
-            }
-        }
-    after_1:;
+    n_4 = std_alloc_vec_Vec_len_Allocation(&self->heads);
+    if (number < n_4) {
+        atlas_search_table_set_first_in(&self->heads, &self->marks, &self->emptied, number, first);
+    } else {
+        atlas_search_table_set_head_in(&self->only, number, first);
     }
 }
 
@@ -38942,31 +39811,91 @@ SMALL void atlas_store_slots_lists_renew(slice_Slot_2 slots, atlas_search_Link a
     atlas_store_slots_write_node(new_slice_Slot_2(slots.at, slots.len), at, node_3);
 }
 
-/* Shows a list that begins with this to a search.
+/* The first slot of a list, or none, in a table that has grown.
+ * crates/atlas_search/src/table.rt
+ */
+SMALL atlas_search_Link atlas_search_table_Table_stored_head(const atlas_search_Table *self, atlas_search_Place at) {
+    const atlas_search_Link *at_3;
+    at_3 = std_alloc_vec_derefs_VecIndexUsize_index_Link(&self->heads, (52u * at.row) + at.column);
+    return *at_3;
+}
+
+/* Shows an entry to a search. Answers whether one that hangs below it may be better: where it is a fork, since else those have
+ * its size and come no earlier, and where the best hasn't an equal side and comes no later.
  * crates/atlas_search/src/search.rt
  */
-SMALL void atlas_search_search_show_list_Slot(slice_Slot entries, atlas_search_Link top, atlas_search_Best *best) {
-    const atlas_store_Slot *at_4;
+SMALL bool atlas_search_search_show_entry_Slot(const atlas_store_Slot *entry, atlas_search_Link at, atlas_search_Best *best) {
+    atlas_model_Rectangle rectangle_4;
+    uint64_t n_5;
+    rectangle_4 = atlas_store_slots_entry_SlotEntry_rectangle(entry);
+    n_5 = atlas_search_best_corner(rectangle_4);
+    if (atlas_search_best_Best_passes(best, n_5)) {
+        return false;
+    }
+    atlas_search_best_Best_look(best, rectangle_4, n_5, at);
+    if (atlas_search_best_Best_passes(best, n_5)) {
+        return false;
+    }
+    return atlas_store_slots_entry_SlotEntry_is_fork(entry);
+}
+
+/* The halves of a cell of more than one size.
+ * crates/atlas_search/src/cells.rt
+ */
+SMALL atlas_search_Halves atlas_search_cells_Cell_halves(atlas_search_Cell self) {
+    uint32_t n_2;
+    uint32_t n_3;
     atlas_search_Halves halves_5;
-    atlas_search_Cell cell_12;
-    atlas_model_Size size_13;
-    atlas_model_Rectangle rectangle_14;
-    atlas_search_Link link_16;
-    atlas_search_Link link_23;
-    if (entries.len <= (uint64_t)top.number) {
+    if (atlas_search_cells_Cell_is_cut_wide(self)) {
+        n_2 = atlas_search_cells_middle(self.left, self.right);
+        halves_5 = new_atlas_search_Halves(new_atlas_search_Cell(self.left, n_2, self.top, self.bottom), new_atlas_search_Cell(n_2,
+                self.right, self.top, self.bottom));
+    } else {
+        n_3 = atlas_search_cells_middle(self.top, self.bottom);
+        halves_5 = new_atlas_search_Halves(new_atlas_search_Cell(self.left, self.right, self.top, n_3), new_atlas_search_Cell(self.left,
+                self.right, n_3, self.bottom));
+    }
+    return halves_5;
+}
+
+/* crates/atlas_store/src/slots/entry.rt */
+SMALL atlas_search_Link atlas_store_slots_entry_SlotEntry_left(const atlas_store_Slot *self) {
+    return self->left;
+}
+
+/* Shows the entries of a heap with this top and of sizes of a cell to a search, but for those that can't be the best.
+ * crates/atlas_search/src/search.rt
+ */
+PART void atlas_search_search_show_Slot(slice_Slot entries, atlas_search_Link at, atlas_search_Cell cell, atlas_search_Best *best) {
+    const atlas_store_Slot *at_5;
+    atlas_search_Halves halves_6;
+    bool is_10;
+    bool is_14;
+    atlas_search_Link link_18;
+    atlas_search_Link link_26;
+    if (!(entries.len <= (uint64_t)at.number)) {
+        is_10 = atlas_search_best_Best_may_be_in(best, cell);
+        if (!(!is_10)) {
+            goto after_2;
+        }
+    }
+    return;
+after_2:;
+    at_5 = ((atlas_store_Slot *)entries.at + (uint64_t)at.number);
+    is_14 = atlas_search_search_show_entry_Slot(at_5, at, best);
+    if (!is_14) {
         return;
     }
-    at_4 = ((atlas_store_Slot *)entries.at + (uint64_t)top.number);
-    if (atlas_search_search_show_entry_Slot(at_4, top, best)) {
-        rectangle_14 = atlas_store_slots_entry_SlotEntry_rectangle(at_4);
-        size_13 = atlas_search_cut_exact_size(rectangle_14);
-        cell_12 = atlas_search_cells_Cell_around(size_13);
-        halves_5 = atlas_search_cells_Cell_halves(cell_12);
-        link_16 = atlas_store_slots_entry_SlotEntry_left(at_4);
-        atlas_search_search_show_Slot(entries, link_16, halves_5.low, best);
-        link_23 = atlas_store_slots_entry_SlotEntry_right(at_4);
-        atlas_search_search_show_Slot(entries, link_23, halves_5.high, best);
-    }
+    halves_6 = atlas_search_cells_Cell_halves(cell);
+    link_18 = atlas_store_slots_entry_SlotEntry_left(at_5);
+    atlas_search_search_show_Slot(entries, link_18, halves_6.low, best);
+    link_26 = atlas_store_slots_entry_SlotEntry_right(at_5);
+    atlas_search_search_show_Slot(entries, link_26, halves_6.high, best);
+}
+
+/* crates/atlas_store/src/slots/entry.rt */
+SMALL atlas_search_Link atlas_store_slots_entry_SlotEntry_right(const atlas_store_Slot *self) {
+    return self->right;
 }
 
 /* Whether an array of n values is small enough to allocate.
@@ -39261,16 +40190,9 @@ SMALL void core_mem_drop_Link_3(atlas_search_Link x) {
     atlas_allocator_Destruct_none_drop_Link(x);
 }
 
-/* std_alloc/src/vec/ends.rt */
-SMALL void std_alloc_vec_Vec_truncate_within_Link_5(Vec_Slot *self, uint64_t n) {
-    uint64_t n_3;
-    Slots_CacheChange_u64 slots_4;
-    tuple_Slots_CacheChange_u64_Spare_CacheChange_u64 tuple_7;
-    n_3 = std_alloc_vec_Vec_len_Allocation(self);
-    tuple_7 = std_alloc_vec_Vec_detach_CacheChange_u64(self, n_3);
-    slots_4 = tuple_7.field_0;
-    std_alloc_vec_opened_drop_run_Link_5(&slots_4, n, n_3);
-    std_alloc_vec_Vec_attach_CacheChange_u64(self, slots_4, tuple_7.field_1, n);
+/* core/src/mem.rt */
+SMALL void core_mem_drop_Marks_2(const atlas_search_Marks x) {
+    atlas_allocator_Destruct_none_drop_Marks(x);
 }
 
 /* guillotiere_c::Destruct++none::drop */
@@ -39296,8 +40218,35 @@ SMALL void core_mem_drop_FreeBox(guillotiere_FreeBox x) {
 SMALL void atlas_search_search_search_list_FreeBox(slice_FreeBox entries, const atlas_search_Table *table, atlas_search_Place place,
         atlas_search_Best *best) {
     atlas_search_Link link_6;
-    link_6 = atlas_search_table_Table_head(table, place);
+    link_6 = atlas_search_table_Table_stored_head(table, place);
     atlas_search_search_show_list_FreeBox(entries, link_6, best);
+}
+
+/* Shows a list that begins with this to a search.
+ * crates/atlas_search/src/search.rt
+ */
+SMALL void atlas_search_search_show_list_FreeBox(slice_FreeBox entries, atlas_search_Link top, atlas_search_Best *best) {
+    const guillotiere_FreeBox *at_4;
+    atlas_search_Halves halves_5;
+    atlas_search_Cell cell_12;
+    atlas_model_Size size_13;
+    atlas_model_Rectangle rectangle_14;
+    atlas_search_Link link_16;
+    atlas_search_Link link_23;
+    if (entries.len <= (uint64_t)top.number) {
+        return;
+    }
+    at_4 = ((guillotiere_FreeBox *)entries.at + (uint64_t)top.number);
+    if (atlas_search_search_show_entry_FreeBox(at_4, top, best)) {
+        rectangle_14 = guillotiere_simple_boxes_FreeBoxEntry_rectangle(at_4);
+        size_13 = atlas_search_cut_exact_size(rectangle_14);
+        cell_12 = atlas_search_cells_Cell_around(size_13);
+        halves_5 = atlas_search_cells_Cell_halves(cell_12);
+        link_16 = guillotiere_simple_boxes_FreeBoxEntry_left(at_4);
+        atlas_search_search_show_FreeBox(entries, link_16, halves_5.low, best);
+        link_23 = guillotiere_simple_boxes_FreeBoxEntry_right(at_4);
+        atlas_search_search_show_FreeBox(entries, link_23, halves_5.high, best);
+    }
 }
 
 /* An entry leaves its heap. Answers the top of what was below it, which took its place. A tag above the heap's top isn't
@@ -39348,6 +40297,31 @@ SMALL uint64_t std_alloc_vec_least_capacity_FreeBox(void) {
 /* core/src/mem.rt */
 SMALL void core_mem_drop_FreeBox_2(guillotiere_FreeBox x) {
     guillotiere_Destruct_none_drop_FreeBox(x);
+}
+
+/* std_alloc/src/vec/derefs.rt */
+SMALL const atlas_search_Link *std_alloc_vec_derefs_VecIndexUsize_index_Link(const Vec_Slot *self, uint64_t index) {
+    slice_Link slice_3;
+    slice_3 = std_alloc_vec_Vec_as_slice_Link(self);
+    return ((atlas_search_Link *)slice_3.at + index);
+}
+
+/* The first slot of a list, or none, where these are the lists that the first few slots come first in.
+ * crates/atlas_search/src/table.rt
+ */
+COLD atlas_search_Link atlas_search_table_head_in(const array_u16_8 *only, uint64_t number) {
+    uint64_t n_3;
+    n_3 = 0u;
+    for (;;) {
+        if (!(n_3 < 8u)) {
+            break;
+        }
+        if ((uint64_t)*((uint16_t *)(void *)only + n_3) == number) {
+            return new_atlas_search_Link((uint32_t)n_3);
+        }
+        n_3 = n_3 + 1u;
+    }
+    return new_atlas_search_Link(4294967295u);
 }
 
 /* Whether an entry is no fork and has the size of another one.
@@ -39499,25 +40473,6 @@ SMALL atlas_search_Pair atlas_search_heap_in_order_FreeBox(slice_FreeBox entries
     return pair_7;
 }
 
-/* The halves of a cell of more than one size.
- * crates/atlas_search/src/cells.rt
- */
-SMALL atlas_search_Halves atlas_search_cells_Cell_halves(atlas_search_Cell self) {
-    uint32_t n_2;
-    uint32_t n_3;
-    atlas_search_Halves halves_5;
-    if (atlas_search_cells_Cell_is_cut_wide(self)) {
-        n_2 = atlas_search_cells_middle(self.left, self.right);
-        halves_5 = new_atlas_search_Halves(new_atlas_search_Cell(self.left, n_2, self.top, self.bottom), new_atlas_search_Cell(n_2,
-                self.right, self.top, self.bottom));
-    } else {
-        n_3 = atlas_search_cells_middle(self.top, self.bottom);
-        halves_5 = new_atlas_search_Halves(new_atlas_search_Cell(self.left, self.right, self.top, n_3), new_atlas_search_Cell(self.left,
-                self.right, n_3, self.bottom));
-    }
-    return halves_5;
-}
-
 /* Whether both sides of a size are before the ends.
  * crates/atlas_search/src/cells.rt
  */
@@ -39539,26 +40494,14 @@ SMALL void atlas_search_heap_move_below_FreeBox(slice_FreeBox_2 entries, atlas_s
     }
 }
 
-/* The set with a number.
- * crates/atlas_search/src/masks.rt
- */
-SMALL atlas_search_Mask atlas_search_masks_Mask_with(atlas_search_Mask self, uint64_t k) {
-    return new_atlas_search_Mask(self.bits | (UINT64_C(1) << (k & 63u)));
-}
-
-/* std_alloc/src/vec/ends.rt */
-SMALL void std_alloc_vec_Vec_truncate_Link_8(Vec_Slot *self, uint64_t n) {
-    uint64_t n_3;
-    n_3 = std_alloc_vec_Vec_len_Allocation(self);
-    if (n_3 <= n) {
-        return;
-    }
-    std_alloc_vec_Vec_truncate_within_Link_8(self, n);
-}
-
 /* core/src/mem.rt */
 SMALL void core_mem_drop_Link_4(atlas_search_Link x) {
     guillotiere_Destruct_none_drop_Link(x);
+}
+
+/* core/src/mem.rt */
+SMALL void core_mem_drop_Marks_3(const atlas_search_Marks x) {
+    guillotiere_Destruct_none_drop_Marks(x);
 }
 
 /* std_alloc/src/vec/ends.rt */
@@ -39575,7 +40518,7 @@ SMALL void std_alloc_vec_Vec_destroy_empty_Slot_4(Vec_Slot self) {
 }
 
 /* std_alloc/src/vec/ends.rt */
-SMALL void std_alloc_vec_Vec_clear_Link_11(Vec_Slot *self) {
+SMALL void std_alloc_vec_Vec_clear_Link_10(Vec_Slot *self) {
     std_alloc_vec_Vec_truncate_Link_11(self, 0u);
 }
 
@@ -39587,10 +40530,23 @@ SMALL void std_alloc_vec_Vec_destroy_empty_Link_7(Vec_Slot self) {
     atlas_pages_Destruct_none_drop();
 }
 
+/* std_alloc/src/vec/ends.rt */
+SMALL void std_alloc_vec_Vec_clear_Marks_6(Vec_Slot *self) {
+    std_alloc_vec_Vec_truncate_Marks_6(self, 0u);
+}
+
+/* Frees an empty Vec, also where `T` is not `Drop`.
+ * std_alloc/src/vec/methods.rt
+ */
+SMALL void std_alloc_vec_Vec_destroy_empty_Marks_6(Vec_Slot self) {
+    std_alloc_vec_Vec_free_block_Marks(self);
+    atlas_pages_Destruct_none_drop();
+}
+
 /* The part of `grow` that asks the allocator, apart so that the test is inlined.
  * std_alloc/src/vec/methods.rt
  */
-SMALL bool std_alloc_vec_Vec_grow_amortized_AtlasAllocator(Vec_Slot *self, uint64_t additional) {
+COLD bool std_alloc_vec_Vec_grow_amortized_AtlasAllocator(Vec_Slot *self, uint64_t additional) {
     uint64_t n_3;
     uint64_t n_8;
     uint64_t n_11;
@@ -39630,7 +40586,7 @@ SMALL Vec_u64_Later std_alloc_vec_Vec_new_u64_Later(std_collections_Later alloc)
 }
 
 /* guillotiere_c::Destruct++none::drop */
-SMALL void guillotiere_c_Destruct_none_drop_Refusals(atlas_cache_Refusals given_1) {
+SMALL void guillotiere_c_Destruct_none_drop_Known(atlas_cache_Known given_1) {
     (void)given_1;
 }
 
@@ -39987,207 +40943,239 @@ SMALL Result_AllocFailed_Entry_u64 std_alloc_vec_Vec_push_Entry_u64(Vec_Slot *se
     return new_Result_AllocFailed_Entry_u64_Ok();
 }
 
-/* Whether a page is at its largest.
+/* The same, where none but the pages from `from` on and before `to` can have room: only these are looked at.
  * crates/atlas_cache/src/rooms.rt
  */
-SMALL bool atlas_cache_rooms_is_largest(atlas_model_Size size, atlas_model_Size largest) {
-    atlas_model_Size size_3;
+SMALL Result_Option_tuple_u32_Allocation_CacheError atlas_cache_rooms_Rooms_place_among(atlas_cache_Rooms *self, uint64_t from,
+        uint64_t to, atlas_model_Size asked) {
+    return atlas_cache_rooms_Rooms_place_before(self, from, to, asked);
+}
+
+/* core/src/result.rt */
+SMALL Result_Option_Entry_u64_CacheError core_result_ResultFromResidualErrResidual_from_residual_Option_Entry_u64_CacheError_CacheError(ErrResidual_CacheError residual) {
+    Result_Option_Entry_u64_CacheError result;
+    atlas_entries_CacheError cacheerror_2;
+    cacheerror_2 = core_convert_AnyFrom_from_CacheError(residual.field_0);
+    result.tag = 1u;
+    result.is.Err.field_0 = cacheerror_2;
+    return result;
+}
+
+/* The first page that isn't at its largest, and its size.
+ * crates/atlas_cache/src/rooms.rt
+ */
+SMALL Option_tuple_u64_Size atlas_cache_rooms_first_to_grow(slice_AtlasAllocator pages, atlas_model_Size largest) {
+    uint64_t n_3;
     atlas_model_Size size_4;
-    size_3 = size;
-    size_4 = largest;
-    return atlas_model_geometry_SizePartialEq_eq(&size_3, &size_4);
-}
-
-/* The least recently used entry that wasn't passed; None if all were. All that were used before it are blank.
- * crates/atlas_entries/src/entries.rt
- */
-SMALL Option_u32 atlas_entries_entries_Entries_unpassed_u64_BuildHasherDefault_FoldHasher_FoldHasher(const atlas_entries_Entries_u64_BuildHasherDefault_FoldHasher_FoldHasher *self) {
-    if (self->mark == 4294967295u) {
-        return atlas_entries_recency_Recency_oldest(&self->recency);
-    }
-    return atlas_entries_recency_Recency_newer(&self->recency, self->mark);
-}
-
-/* An entry is passed, until it is used, and all that were used before it, until they are. Requires that they are blank.
- * crates/atlas_entries/src/entries.rt
- */
-SMALL void atlas_entries_entries_Entries_pass_u64_BuildHasherDefault_FoldHasher_FoldHasher(atlas_entries_Entries_u64_BuildHasherDefault_FoldHasher_FoldHasher *self, uint32_t number) {
-    self->mark = number;
-}
-
-/* The entry that was used next after this one; None if this is the most recently used.
- * crates/atlas_entries/src/entries.rt
- */
-SMALL Option_u32 atlas_entries_entries_Entries_newer_u64_BuildHasherDefault_FoldHasher_FoldHasher(const atlas_entries_Entries_u64_BuildHasherDefault_FoldHasher_FoldHasher *self, uint32_t number) {
-    return atlas_entries_recency_Recency_newer(&self->recency, number);
-}
-
-/* The same on each page, which has marks of its own.
- * crates/atlas_cache/src/rooms/rehearsing.rt
- */
-SMALL Result atlas_cache_rooms_Rooms_show_none_on_all(const atlas_cache_Rooms *self, Vec_Slot *marks) {
-    uint32_t n_5;
-    ControlFlow controlflow_8;
-    Result result_9;
-    uint32_t n_11;
-    ControlFlow controlflow_13;
-    Result result_14;
-    Vec_Slot *at_15;
-    result_9 = atlas_cache_rooms_Rooms_add_marks(self, marks);
-    controlflow_8 = core_result_ResultTry_branch(result_9);
-    if (!(controlflow_8.tag == 0u /* Continue */)) {
-        return core_result_ResultFromResidualErrResidual_from_residual();
-    }
-    n_5 = 0u;
-    n_11 = atlas_cache_rooms_Rooms_len(self);
+    uint64_t n_5;
+    bool is_12;
+    n_3 = 0u;
+    n_5 = pages.len;
     for (;;) {
-        if (!(n_5 < n_11)) {
+        if (!(n_3 < n_5)) {
             break;
         }
-        at_15 = std_alloc_vec_lends_VecIndexMutUsize_index_mut_Vec_bool(marks, (uint64_t)n_5);
-        result_14 = atlas_cache_rooms_Rooms_show_none(self, n_5, at_15);
-        controlflow_13 = core_result_ResultTry_branch(result_14);
-        if (!(controlflow_13.tag == 0u /* Continue */)) {
-            return core_result_ResultFromResidualErrResidual_from_residual();
+        size_4 = atlas_allocator_atlas_AtlasAllocator_size(((atlas_allocator_AtlasAllocator *)pages.at + n_3));
+        is_12 = atlas_cache_rooms_is_largest(size_4, largest);
+        if (!is_12) {
+            return new_Option_tuple_u64_Size_Some(new_tuple_u64_Size(n_3, size_4));
         }
-        n_5 = n_5 + 1u;
+        n_3 = n_3 + 1u;
+    }
+    return new_Option_tuple_u64_Size_None();
+}
+
+/* core/src/option.rt */
+SMALL bool core_option_Option_is_none_tuple_u64_Size(const Option_tuple_u64_Size *self) {
+    bool is_2;
+    if (self->tag == 1u /* Some */) {
+        is_2 = false;
+    } else {
+        is_2 = true;
+    }
+    return is_2;
+}
+
+/* The least recently used entry that lies on a page, with its number; None if none does. Each blank entry that was used
+ * before it is passed once, and not again until it is used.
+ * crates/atlas_cache/src/cache/holding.rt
+ */
+SMALL Option_tuple_u32_Entry_u64 atlas_cache_cache_holding_oldest_lying_u64_BuildHasherDefault_FoldHasher_FoldHasher(atlas_entries_Entries_u64_BuildHasherDefault_FoldHasher_FoldHasher *entries) {
+    Option_tuple_u32_Entry_u64 result;
+    Option_u32 option_2;
+    uint32_t n_3;
+    atlas_entries_Entry_u64 entry_4;
+    uint64_t n_8;
+    uint64_t n_9;
+    bool is_21;
+    atlas_entries_entries_Entries_prove_kept_u64_BuildHasherDefault_FoldHasher_FoldHasher(entries);
+    option_2 = atlas_entries_entries_Entries_unpassed_u64_BuildHasherDefault_FoldHasher_FoldHasher(entries);
+    n_8 = 0u;
+    n_9 = atlas_entries_entries_Entries_len_u64_BuildHasherDefault_FoldHasher_FoldHasher(entries);
+    for (;;) {
+        if (!(n_8 < n_9)) {
+            break;
+        }
+        if (option_2.tag == 1u /* Some */) {
+            n_3 = option_2.Some.field_0;
+        } else {
+            result.tag = 0u;
+            return result;
+        }
+        entry_4 = atlas_entries_entries_Entries_entry_u64_BuildHasherDefault_FoldHasher_FoldHasher(entries, n_3);
+        is_21 = atlas_entries_entries_Entry_is_blank_u64(&entry_4);
+        if (!is_21) {
+            result.tag = 1u;
+            result.Some.field_0 = new_tuple_u32_Entry_u64(n_3, entry_4);
+            return result;
+        }
+        atlas_entries_entries_Entries_pass_u64_BuildHasherDefault_FoldHasher_FoldHasher(entries, n_3);
+        option_2 = atlas_entries_entries_Entries_newer_u64_BuildHasherDefault_FoldHasher_FoldHasher(entries, n_3);
+        n_8 = n_8 + 1u;
+    }
+    result.tag = 0u;
+    return result;
+}
+
+/* The same, with nothing shown before. An error is a refusal of memory for marks of slots.
+ * crates/atlas_cache/src/cache/vacating.rt
+ */
+SMALL Result_Option_Vacancy atlas_cache_cache_vacating_find_vacancy_u64_BuildHasherDefault_FoldHasher_FoldHasher(const atlas_cache_Rooms *rooms, const atlas_entries_Entries_u64_BuildHasherDefault_FoldHasher_FoldHasher *entries, Vec_Slot *marks, uint64_t frame, atlas_model_Size asked) {
+    ControlFlow controlflow_8;
+    Result result_9;
+    Option_Vacancy option_11;
+    result_9 = atlas_cache_rooms_Rooms_show_none_on_all(rooms, marks);
+    controlflow_8 = core_result_ResultTry_branch(result_9);
+    if (!(controlflow_8.tag == 0u /* Continue */)) {
+        return core_result_ResultFromResidualErrResidual_from_residual_Option_Vacancy();
+    }
+    option_11 = atlas_cache_cache_vacating_first_vacancy_u64_BuildHasherDefault_FoldHasher_FoldHasher(rooms, entries, marks, frame, asked);
+    return new_Result_Option_Vacancy_Ok(option_11);
+}
+
+/* How many of so many of the least recently used entries lie on a page inside a box.
+ * crates/atlas_cache/src/cache/vacating.rt
+ */
+SMALL uint64_t atlas_cache_cache_vacating_inside_u64_BuildHasherDefault_FoldHasher_FoldHasher(const atlas_entries_Entries_u64_BuildHasherDefault_FoldHasher_FoldHasher *entries, uint64_t count, uint32_t page, const atlas_model_Rectangle *area) {
+    Option_u32 option_5;
+    uint64_t n_6;
+    uint64_t n_7;
+    uint32_t n_8;
+    atlas_entries_Entry_u64 entry_9;
+    atlas_entries_entries_Entries_prove_kept_u64_BuildHasherDefault_FoldHasher_FoldHasher(entries);
+    option_5 = atlas_entries_entries_Entries_oldest_u64_BuildHasherDefault_FoldHasher_FoldHasher(entries);
+    n_6 = 0u;
+    n_7 = 0u;
+    for (;;) {
+        if (!(n_7 < count)) {
+            break;
+        }
+        if (option_5.tag == 1u /* Some */) {
+            n_8 = option_5.Some.field_0;
+        } else {
+            return n_6;
+        }
+        entry_9 = atlas_entries_entries_Entries_entry_u64_BuildHasherDefault_FoldHasher_FoldHasher(entries, n_8);
+        if (atlas_cache_cache_vacating_lies_in_u64(&entry_9, page, area)) {
+            n_6 = n_6 + 1u;
+        }
+        option_5 = atlas_entries_entries_Entries_newer_u64_BuildHasherDefault_FoldHasher_FoldHasher(entries, n_8);
+        n_7 = n_7 + 1u;
+    }
+    return n_6;
+}
+
+/* core/src/result.rt */
+SMALL Result_Vacated_CacheError core_result_ResultFromResidualErrResidual_from_residual_Vacated_CacheError(void) {
+    atlas_entries_CacheError cacheerror_2;
+    cacheerror_2 = atlas_entries_error_CacheErrorFromAllocError_from();
+    return new_Result_Vacated_CacheError_Err(cacheerror_2);
+}
+
+/* Of so many of the least recently used entries those go that lie on a page inside a box.
+ * crates/atlas_cache/src/cache/vacating.rt
+ */
+SMALL void atlas_cache_cache_vacating_clear_u64_BuildHasherDefault_FoldHasher_FoldHasher(atlas_cache_Rooms *rooms,
+        atlas_entries_Entries_u64_BuildHasherDefault_FoldHasher_FoldHasher *entries, atlas_cache_Counts *counts, uint64_t frame,
+        const atlas_cache_Vacancy *vacancy, Vec_Slot *changes) {
+    Option_u32 option_7;
+    uint64_t n_8;
+    uint32_t n_9;
+    uint64_t n_11;
+    (void)frame;
+    option_7 = atlas_entries_entries_Entries_oldest_u64_BuildHasherDefault_FoldHasher_FoldHasher(entries);
+    n_8 = 0u;
+    n_11 = vacancy->count;
+    for (;;) {
+        if (!(n_8 < n_11)) {
+            break;
+        }
+        atlas_entries_entries_Entries_prove_kept_u64_BuildHasherDefault_FoldHasher_FoldHasher(entries);
+        if (option_7.tag == 1u /* Some */) {
+            n_9 = option_7.Some.field_0;
+        } else {
+            return;
+        }
+        option_7 = atlas_entries_entries_Entries_newer_u64_BuildHasherDefault_FoldHasher_FoldHasher(entries, n_9);
+        atlas_cache_cache_vacating_clear_one_u64_BuildHasherDefault_FoldHasher_FoldHasher(rooms, entries, counts, n_9, vacancy, changes);
+        n_8 = n_8 + 1u;
+    }
+}
+
+/* The size that a page grows to.
+ * crates/atlas_cache/src/rooms.rt
+ */
+SMALL atlas_model_Size atlas_cache_rooms_grown(atlas_model_Size size, atlas_model_Size largest) {
+    atlas_model_Size size_3;
+    bool is_5;
+    uint32_t n_7;
+    uint32_t n_8;
+    if ((int32_t)size.width < (int32_t)largest.width) {
+        is_5 = (int32_t)size.width <= (int32_t)size.height;
+        if (!is_5) {
+            is_5 = (int32_t)largest.height <= (int32_t)size.height;
+        }
+        if (is_5) {
+            n_7 = atlas_cache_rooms_doubled(size.width, largest.width);
+            size_3 = new_atlas_model_Size(n_7, size.height);
+            goto after_1;
+        }
+    }
+    n_8 = atlas_cache_rooms_doubled(size.height, largest.height);
+    size_3 = new_atlas_model_Size(size.width, n_8);
+after_1:;
+    return size_3;
+}
+
+/* std_alloc/src/vec/methods.rt */
+SMALL Result std_alloc_vec_Vec_reserve_Known(Vec_Slot *self, uint64_t additional) {
+    bool is_3;
+    is_3 = std_alloc_vec_Vec_grow_Known(self, additional);
+    if (!is_3) {
+        return new_Result_Err();
     }
     return new_Result_Ok();
 }
 
 /* core/src/result.rt */
-SMALL Result_Option_Vacancy core_result_ResultFromResidualErrResidual_from_residual_Option_Vacancy(void) {
-    core_convert_AnyFrom_from();
-    return new_Result_Option_Vacancy_Err();
+SMALL Result_Option_tuple_u32_Size_CacheError core_result_ResultFromResidualErrResidual_from_residual_Option_tuple_u32_Size_CacheError(void) {
+    atlas_entries_CacheError cacheerror_2;
+    cacheerror_2 = atlas_entries_error_CacheErrorFromAllocError_from();
+    return new_Result_Option_tuple_u32_Size_CacheError_Err(cacheerror_2);
 }
 
-/* As if the entries went in the order of use that a frame didn't use: the first box that comes free and that a request fits; None if even
- * then no page has room.
- * crates/atlas_cache/src/cache/vacating.rt
- */
-SMALL Option_Vacancy atlas_cache_cache_vacating_first_vacancy_u64_BuildHasherDefault_FoldHasher_FoldHasher(const atlas_cache_Rooms *rooms,
-        const atlas_entries_Entries_u64_BuildHasherDefault_FoldHasher_FoldHasher *entries, Vec_Slot *marks, uint64_t frame,
-        atlas_model_Size asked) {
-    Option_u32 option_6;
-    uint64_t n_7;
-    uint32_t n_8;
-    atlas_entries_Entry_u64 entry_9;
-    uint64_t n_12;
-    Option_Rectangle option_15;
-    atlas_entries_entries_Entries_prove_kept_u64_BuildHasherDefault_FoldHasher_FoldHasher(entries);
-    option_6 = atlas_entries_entries_Entries_oldest_u64_BuildHasherDefault_FoldHasher_FoldHasher(entries);
-    n_7 = 0u;
-    n_12 = atlas_entries_entries_Entries_len_u64_BuildHasherDefault_FoldHasher_FoldHasher(entries);
-    for (;;) {
-        if (!(n_7 < n_12)) {
-            break;
-        }
-        if (option_6.tag == 1u /* Some */) {
-            n_8 = option_6.Some.field_0;
-        } else {
-            return new_Option_Vacancy_None();
-        }
-        entry_9 = atlas_entries_entries_Entries_entry_u64_BuildHasherDefault_FoldHasher_FoldHasher(entries, n_8);
-        if (entry_9.frame == frame) {
-            return new_Option_Vacancy_None();
-        }
-        option_15 = atlas_cache_cache_vacating_show_u64(rooms, marks, asked, entry_9);
-        if (option_15.tag == 1u /* Some */) {
-            return new_Option_Vacancy_Some(new_atlas_cache_Vacancy(entry_9.page, option_15.Some.field_0, n_7 + 1u));
-        }
-        option_6 = atlas_entries_entries_Entries_newer_u64_BuildHasherDefault_FoldHasher_FoldHasher(entries, n_8);
-        n_7 = n_7 + 1u;
-    }
-    return new_Option_Vacancy_None();
+/* core/src/result.rt */
+SMALL Result_Option_tuple_u32_Size_CacheError core_result_ResultFromResidualErrResidual_from_residual_Option_tuple_u32_Size_AllocFailed_AtlasAllocator_CacheError(const ErrResidual_AllocFailed_AtlasAllocator residual) {
+    atlas_entries_CacheError cacheerror_2;
+    cacheerror_2 = atlas_entries_error_CacheErrorFromAllocFailed_from_AtlasAllocator(residual.field_0);
+    return new_Result_Option_tuple_u32_Size_CacheError_Err(cacheerror_2);
 }
 
-/* Whether an entry lies on a page inside a box.
- * crates/atlas_cache/src/cache/vacating.rt
- */
-SMALL bool atlas_cache_cache_vacating_lies_in_u64(const atlas_entries_Entry_u64 *entry, uint32_t page, const atlas_model_Rectangle *area) {
-    atlas_model_Rectangle rectangle_4;
-    atlas_model_Rectangle rectangle_5;
-    bool is_9;
-    bool is_11;
-    bool is_12;
-    rectangle_4 = *area;
-    rectangle_5 = entry->rectangle;
-    if (entry->page != page) {
-        return false;
-    }
-    is_12 = atlas_cache_cache_vacating_is_no_greater(rectangle_4.min_.x, rectangle_5.min_.x);
-    if (!(!is_12)) {
-        is_9 = atlas_cache_cache_vacating_is_no_greater(rectangle_4.min_.y, rectangle_5.min_.y);
-        if (!(!is_9)) {
-            goto after_2;
-        }
-    }
-    return false;
-after_2:;
-    is_11 = atlas_cache_cache_vacating_is_no_greater(rectangle_5.max_.x, rectangle_4.max_.x);
-    if (is_11) {
-        is_11 = atlas_cache_cache_vacating_is_no_greater(rectangle_5.max_.y, rectangle_4.max_.y);
-    }
-    return is_11;
-}
-
-/* An entry goes, and the change that says so is listed, if it lies on a page inside a box; whether it did.
- * crates/atlas_cache/src/cache/vacating.rt
- */
-SMALL void atlas_cache_cache_vacating_clear_one_u64_BuildHasherDefault_FoldHasher_FoldHasher(atlas_cache_Rooms *rooms,
-        atlas_entries_Entries_u64_BuildHasherDefault_FoldHasher_FoldHasher *entries, atlas_cache_Counts *counts, uint32_t number,
-        const atlas_cache_Vacancy *vacancy, Vec_Slot *changes) {
-    atlas_entries_Entry_u64 entry_7;
-    atlas_cache_Place place_8;
-    bool is_12;
-    atlas_cache_CacheOptions cacheoptions_19;
-    uint64_t n_24;
-    atlas_entries_Entry_u64 entry_28;
-    entry_7 = atlas_entries_entries_Entries_entry_u64_BuildHasherDefault_FoldHasher_FoldHasher(entries, number);
-    is_12 = atlas_cache_cache_vacating_lies_in_u64(&entry_7, vacancy->page, &vacancy->area);
-    if (!is_12) {
-        return;
-    }
-    entry_28 = entry_7;
-    cacheoptions_19 = atlas_cache_rooms_Rooms_options(rooms);
-    place_8 = atlas_cache_cache_holding_place_of_u64(entry_28, &cacheoptions_19);
-    atlas_cache_cache_holding_take_out_u64_BuildHasherDefault_FoldHasher_FoldHasher(rooms, entries, number, entry_7);
-    n_24 = atlas_cache_counts_count(counts->evictions);
-    counts->evictions = n_24;
-    std_alloc_vec_Vec_push_reserved_CacheChange_u64(changes, new_atlas_cache_CacheChange_u64_Evicted(entry_7.key, place_8));
-}
-
-/* Twice a side, up to the largest.
- * crates/atlas_cache/src/rooms.rt
- */
-SMALL uint32_t atlas_cache_rooms_doubled(uint32_t side, uint32_t most) {
-    uint32_t n_5;
-    if ((int32_t)(most - side) <= (int32_t)side) {
-        n_5 = most;
-    } else {
-        n_5 = side + side;
-    }
-    return n_5;
-}
-
-/* `Memory`, whatever was asked for.
- * crates/atlas_entries/src/error.rt
- */
-SMALL atlas_entries_CacheError atlas_entries_error_CacheErrorFromAllocFailed_from_AtlasAllocator(const AllocFailed_AtlasAllocator _error) {
-    atlas_entries_CacheError result;
-    result = new_atlas_entries_CacheError_Memory();
-    atlas_cache_atlas_allocator_atlas_AtlasAllocator_Destruct_drop(_error.value);
-    return result;
-}
-
-/* Appends x. There is spare capacity.
+/* A push that cannot fail, since there is spare capacity.
  * std_alloc/src/vec/methods.rt
  */
-SMALL void std_alloc_vec_Vec_put_Refusals(Vec_Slot *self, atlas_cache_Refusals x) {
-    uint64_t n_3;
-    n_3 = self->len;
-    *((atlas_cache_Refusals *)self->ptr + n_3) = x;
-    self->len = n_3 + 1u;
+SMALL void std_alloc_vec_Vec_push_reserved_Known(Vec_Slot *self, atlas_cache_Known value) {
+    std_alloc_vec_Vec_put_Known(self, value);
 }
 
 /* Finds and removes in one probe.
@@ -40240,14 +41228,14 @@ SMALL void std_alloc_vec_Vec_truncate_u32_Later_2(Vec_u64_Later *self, uint64_t 
 }
 
 /* std_alloc/src/vec/ends.rt */
-SMALL void std_alloc_vec_Vec_truncate_within_Link_6(Vec_Slot *self, uint64_t n) {
+SMALL void std_alloc_vec_Vec_truncate_within_Link_8(Vec_Slot *self, uint64_t n) {
     uint64_t n_3;
     Slots_CacheChange_u64 slots_4;
     tuple_Slots_CacheChange_u64_Spare_CacheChange_u64 tuple_7;
     n_3 = std_alloc_vec_Vec_len_Allocation(self);
     tuple_7 = std_alloc_vec_Vec_detach_CacheChange_u64(self, n_3);
     slots_4 = tuple_7.field_0;
-    std_alloc_vec_opened_drop_run_Link_6(&slots_4, n, n_3);
+    std_alloc_vec_opened_drop_run_Link_8(&slots_4, n, n_3);
     std_alloc_vec_Vec_attach_CacheChange_u64(self, slots_4, tuple_7.field_1, n);
 }
 
@@ -40293,11 +41281,14 @@ SMALL bool atlas_cache_rooms_asking_is_no_smaller(atlas_model_Size asked, atlas_
 /* One more size that a page has no room for. Where that is no larger than the first, it takes its place.
  * crates/atlas_cache/src/rooms/asking.rt
  */
-SMALL atlas_cache_Refusals atlas_cache_rooms_asking_with(atlas_cache_Refusals refused, atlas_model_Size asked) {
-    if (atlas_cache_rooms_asking_is_no_smaller(refused.first, asked)) {
-        return new_atlas_cache_Refusals(asked, refused.second);
+SMALL atlas_cache_Known atlas_cache_rooms_asking_with(atlas_cache_Known known, atlas_model_Size asked) {
+    atlas_model_Size size_6;
+    if (atlas_cache_rooms_asking_is_no_smaller(known.first, asked)) {
+        size_6 = known.second;
+    } else {
+        size_6 = known.first;
     }
-    return new_atlas_cache_Refusals(asked, refused.first);
+    return new_atlas_cache_Known(asked, size_6, known.live);
 }
 
 /* atlas_cache::Destruct++none::drop */
@@ -40354,13 +41345,23 @@ SMALL void std_alloc_vec_Vec_truncate_Slot_5(Vec_Slot *self, uint64_t n) {
 }
 
 /* std_alloc/src/vec/ends.rt */
-SMALL void std_alloc_vec_Vec_truncate_Link_9(Vec_Slot *self, uint64_t n) {
+SMALL void std_alloc_vec_Vec_truncate_Link_10(Vec_Slot *self, uint64_t n) {
     uint64_t n_3;
     n_3 = std_alloc_vec_Vec_len_Allocation(self);
     if (n_3 <= n) {
         return;
     }
-    std_alloc_vec_Vec_truncate_within_Link_9(self, n);
+    std_alloc_vec_Vec_truncate_within_Link_10(self, n);
+}
+
+/* std_alloc/src/vec/ends.rt */
+SMALL void std_alloc_vec_Vec_truncate_Marks_5(Vec_Slot *self, uint64_t n) {
+    uint64_t n_3;
+    n_3 = std_alloc_vec_Vec_len_Allocation(self);
+    if (n_3 <= n) {
+        return;
+    }
+    std_alloc_vec_Vec_truncate_within_Marks_5(self, n);
 }
 
 /* core/src/slice/sort/unstable.rt */
@@ -40505,9 +41506,9 @@ SMALL void atlas_cache_atlas_allocator_atlas_AtlasAllocator_Destruct_drop(const 
 /* Whether an array of n values is small enough to allocate.
  * std_alloc/src/room.rt
  */
-SMALL bool std_alloc_room_may_hold_Refusals(uint64_t n) {
+SMALL bool std_alloc_room_may_hold_Known(uint64_t n) {
     uint64_t n_2;
-    n_2 = sizeof(atlas_cache_Refusals);
+    n_2 = sizeof(atlas_cache_Known);
     if (UINT64_C(9223372036854775807) < n) {
         return false;
     }
@@ -40524,15 +41525,15 @@ SMALL bool std_alloc_room_may_hold_Refusals(uint64_t n) {
  * buffer is as it was.
  * std_alloc/src/vec.rt
  */
-SMALL Result_ptr std_alloc_vec_resize_Refusals(const void *alloc, void *ptr, uint64_t len, uint64_t old_cap, uint64_t new_cap) {
+SMALL Result_ptr std_alloc_vec_resize_Known(const void *alloc, void *ptr, uint64_t len, uint64_t old_cap, uint64_t new_cap) {
     Result_ptr result_9;
     Result_ptr result_10;
     Result_ptr result_12;
     if (old_cap != 0u) {
-        result_9 = std_heap_GlobalAllocator_grow_Refusals(alloc, ptr, len, old_cap, new_cap);
+        result_9 = std_heap_GlobalAllocator_grow_Known(alloc, ptr, len, old_cap, new_cap);
         return result_9;
     }
-    result_10 = std_heap_GlobalAllocator_allocate(alloc, new_cap * sizeof(atlas_cache_Refusals), 4u);
+    result_10 = std_heap_GlobalAllocator_allocate(alloc, new_cap * sizeof(atlas_cache_Known), 8u);
     if (result_10.tag == 0u /* Ok */) {
         result_12 = new_Result_ptr_Ok(result_10.Ok.field_0);
     } else {
@@ -40544,7 +41545,7 @@ SMALL Result_ptr std_alloc_vec_resize_Refusals(const void *alloc, void *ptr, uin
 /* The part of `grow` that asks the allocator, apart so that the test is inlined.
  * std_alloc/src/vec/methods.rt
  */
-SMALL bool std_alloc_vec_Vec_grow_amortized_Refusals(Vec_Slot *self, uint64_t additional) {
+COLD bool std_alloc_vec_Vec_grow_amortized_Known(Vec_Slot *self, uint64_t additional) {
     uint64_t n_3;
     uint64_t n_8;
     uint64_t n_11;
@@ -40554,35 +41555,35 @@ SMALL bool std_alloc_vec_Vec_grow_amortized_Refusals(Vec_Slot *self, uint64_t ad
         return false;
     }
     n_8 = std_alloc_vec_Vec_capacity_Slot(self);
-    n_11 = std_alloc_vec_least_capacity_Refusals();
+    n_11 = std_alloc_vec_least_capacity_Known();
     n_12 = std_alloc_vec_grown(n_8, n_3 + additional, n_11);
-    return std_alloc_vec_Vec_move_to_Refusals(self, n_12);
+    return std_alloc_vec_Vec_move_to_Known(self, n_12);
 }
 
 /* Copies count values bit for bit. A share of the source is enough, so it may be shared memory. The clauses say
  * nothing of what the values own, so the caller keeps track of that.
  * core/src/ptr/copy_drop.rt
  */
-SMALL void core_ptr_copy_drop_copy_bits_Refusals(void *src, void *dst, uint64_t count) {
+SMALL void core_ptr_copy_drop_copy_bits_Known(void *src, void *dst, uint64_t count) {
     uint64_t n_4;
     n_4 = 0u;
     for (;;) {
         if (!(n_4 < count)) {
             break;
         }
-        *((atlas_cache_Refusals *)dst + n_4) = *((atlas_cache_Refusals *)src + n_4);
+        *((atlas_cache_Known *)dst + n_4) = *((atlas_cache_Known *)src + n_4);
         n_4 = n_4 + 1u;
     }
 }
 
 /* std_alloc/src/vec/ends.rt */
-SMALL void std_alloc_vec_Vec_truncate_Refusals_3(Vec_Slot *self, uint64_t n) {
+SMALL void std_alloc_vec_Vec_truncate_Known_3(Vec_Slot *self, uint64_t n) {
     uint64_t n_3;
     n_3 = std_alloc_vec_Vec_len_Allocation(self);
     if (n_3 <= n) {
         return;
     }
-    std_alloc_vec_Vec_truncate_within_Refusals_3(self, n);
+    std_alloc_vec_Vec_truncate_within_Known_3(self, n);
 }
 
 /* std_collections/src/columns/methods.rt */
@@ -40660,7 +41661,7 @@ SMALL void atlas_entries_Destruct_none_drop_tuple_u64_u32(tuple_u64_u32 given_1)
 /* Moves the elements to a larger block, of capacity `cap`, which may be the one that they are in, and returns whether it could.
  * std_alloc/src/vec/methods.rt
  */
-SMALL bool std_alloc_vec_Vec_move_to_Link_3(Vec_Slot *self, uint64_t cap) {
+SMALL bool std_alloc_vec_Vec_move_to_Link_2(Vec_Slot *self, uint64_t cap) {
     bool is_4;
     Result_ptr result_6;
     Result_ptr result_7;
@@ -40669,7 +41670,7 @@ SMALL bool std_alloc_vec_Vec_move_to_Link_3(Vec_Slot *self, uint64_t cap) {
     if (!is_4) {
         return false;
     }
-    result_7 = std_alloc_vec_resize_Link_3((const void *)&nothing, self->ptr, self->len, self->cap, cap);
+    result_7 = std_alloc_vec_resize_Link_2((const void *)&nothing, self->ptr, self->len, self->cap, cap);
     result_6 = result_7;
     if (result_6.tag == 0u /* Ok */) {
         self->ptr = result_6.Ok.field_0;
@@ -40687,7 +41688,7 @@ SMALL void core_slots_Slots_copy_in_Link_2(Slots_CacheChange_u64 *self, uint64_t
 }
 
 /* std_alloc/src/vec/ends.rt */
-SMALL void std_alloc_vec_Vec_clear_Link_12(Vec_Slot *self) {
+SMALL void std_alloc_vec_Vec_clear_Link_11(Vec_Slot *self) {
     std_alloc_vec_Vec_truncate_Link_12(self, 0u);
 }
 
@@ -40812,16 +41813,16 @@ SMALL void std_alloc_vec_opened_drop_run_AtlasAllocator_3(Slots_CacheChange_u64 
 /* Drops the values from `from` up to `to`, in that order.
  * std_alloc/src/vec/opened.rt
  */
-SMALL void std_alloc_vec_opened_drop_run_Refusals_2(Slots_CacheChange_u64 *row, uint64_t from, uint64_t to) {
+SMALL void std_alloc_vec_opened_drop_run_Known_2(Slots_CacheChange_u64 *row, uint64_t from, uint64_t to) {
     uint64_t n_4;
-    atlas_cache_Refusals refusals_7;
+    atlas_cache_Known known_7;
     n_4 = from;
     for (;;) {
         if (!(n_4 < to)) {
             break;
         }
-        refusals_7 = core_slots_Slots_take_Refusals(row, n_4);
-        core_mem_drop_Refusals_2(refusals_7);
+        known_7 = core_slots_Slots_take_Known(row, n_4);
+        core_mem_drop_Known_2(known_7);
         n_4 = n_4 + 1u;
     }
 }
@@ -40963,7 +41964,7 @@ SMALL uint64_t std_alloc_vec_least_capacity_Entry_u64(void) {
 /* The part of `grow` that asks the allocator, apart so that the test is inlined.
  * std_alloc/src/vec/methods.rt
  */
-SMALL bool std_alloc_vec_Vec_grow_amortized_Link_2(Vec_Slot *self, uint64_t additional) {
+COLD bool std_alloc_vec_Vec_grow_amortized_Link_2(Vec_Slot *self, uint64_t additional) {
     uint64_t n_3;
     uint64_t n_8;
     uint64_t n_11;
@@ -40975,13 +41976,13 @@ SMALL bool std_alloc_vec_Vec_grow_amortized_Link_2(Vec_Slot *self, uint64_t addi
     n_8 = std_alloc_vec_Vec_capacity_Slot(self);
     n_11 = std_alloc_vec_least_capacity_Link_2();
     n_12 = std_alloc_vec_grown(n_8, n_3 + additional, n_11);
-    return std_alloc_vec_Vec_move_to_Link_3(self, n_12);
+    return std_alloc_vec_Vec_move_to_Link_2(self, n_12);
 }
 
 /* The part of `grow` that asks the allocator, apart so that the test is inlined.
  * std_alloc/src/vec/methods.rt
  */
-SMALL bool std_alloc_vec_Vec_grow_amortized_Vec_bool(Vec_Slot *self, uint64_t additional) {
+COLD bool std_alloc_vec_Vec_grow_amortized_Vec_bool(Vec_Slot *self, uint64_t additional) {
     uint64_t n_3;
     uint64_t n_8;
     uint64_t n_11;
@@ -41368,7 +42369,9 @@ PART Result_Vec_Size_SheetError atlas_sheet_places_find_places(slice_Size sprite
     Result_SheetError result_24;
     slice_Option_Rectangle_2 slice_26;
     guillotiere_FreeBoxes freeboxes_32;
-    guillotiere_FreeBoxes freeboxes_42;
+    atlas_search_Table table_34;
+    guillotiere_FreeBoxes freeboxes_45;
+    atlas_search_Table table_47;
     result_16 = std_alloc_vec_Vec_from_elem_Option_Rectangle(new_Option_Rectangle_None(), sprites.len);
     controlflow_15 = core_result_ResultTry_branch_Vec_AllocId(result_16);
     if (controlflow_15.tag == 0u /* Continue */) {
@@ -41394,14 +42397,18 @@ PART Result_Vec_Size_SheetError atlas_sheet_places_find_places(slice_Size sprite
         result = core_result_ResultFromResidualErrResidual_from_residual_Vec_tuple_u64_Size_SheetError_SheetError(controlflow_23.Break.field_0);
         freeboxes_32 = simpleatlasallocator_10.boxes;
         std_alloc_vec_Vec_drop_FreeBox_3(freeboxes_32.entries);
-        std_alloc_vec_Vec_drop_Link_13(freeboxes_32.table.heads);
+        table_34 = freeboxes_32.table;
+        std_alloc_vec_Vec_drop_Link_12(table_34.heads);
+        std_alloc_vec_Vec_drop_Marks_7(table_34.marks);
         std_alloc_vec_Vec_drop_Option_Rectangle(vec_7);
         return result;
     }
     result = new_Result_Vec_Size_SheetError_Ok(vec_7);
-    freeboxes_42 = simpleatlasallocator_10.boxes;
-    std_alloc_vec_Vec_drop_FreeBox_3(freeboxes_42.entries);
-    std_alloc_vec_Vec_drop_Link_13(freeboxes_42.table.heads);
+    freeboxes_45 = simpleatlasallocator_10.boxes;
+    std_alloc_vec_Vec_drop_FreeBox_3(freeboxes_45.entries);
+    table_47 = freeboxes_45.table;
+    std_alloc_vec_Vec_drop_Link_12(table_47.heads);
+    std_alloc_vec_Vec_drop_Marks_7(table_47.marks);
     return result;
 }
 
@@ -41418,7 +42425,7 @@ SMALL Result_Arrangement_SheetError core_result_ResultFromResidualErrResidual_fr
 /* Rust's `to_vec`, where the elements are `Copy`. A stand-in for specialization, beside `from_clones`.
  * std_alloc/src/vec/makes.rt
  */
-PART Result_Vec_AllocId std_alloc_vec_Vec_from_slice_tuple_u64_Size(slice_tuple_u64_Size items) {
+SMALL Result_Vec_AllocId std_alloc_vec_Vec_from_slice_tuple_u64_Size(slice_tuple_u64_Size items) {
     Vec_Slot vec_3;
     ControlFlow_Vec_AllocId controlflow_7;
     Result_Vec_AllocId result_8;
@@ -41961,7 +42968,7 @@ SMALL void std_alloc_vec_Vec_truncate_within_Option_Placed_2(Vec_Slot *self, uin
 /* The part of `grow` that asks the allocator, apart so that the test is inlined.
  * std_alloc/src/vec/methods.rt
  */
-SMALL bool std_alloc_vec_Vec_grow_amortized_Option_OnPage(Vec_Slot *self, uint64_t additional) {
+COLD bool std_alloc_vec_Vec_grow_amortized_Option_OnPage(Vec_Slot *self, uint64_t additional) {
     uint64_t n_3;
     uint64_t n_8;
     uint64_t n_11;
@@ -42000,7 +43007,7 @@ SMALL uint64_t std_alloc_vec_least_capacity_Size(void) {
 /* The part of `grow` that asks the allocator, apart so that the test is inlined.
  * std_alloc/src/vec/methods.rt
  */
-SMALL bool std_alloc_vec_Vec_grow_amortized_OnPage(Vec_Slot *self, uint64_t additional) {
+COLD bool std_alloc_vec_Vec_grow_amortized_OnPage(Vec_Slot *self, uint64_t additional) {
     uint64_t n_3;
     uint64_t n_8;
     uint64_t n_11;
@@ -42148,7 +43155,7 @@ SMALL Result_ptr std_alloc_vec_resize_Option_u64(const void *alloc, void *ptr, u
 /* The part of `grow` that asks the allocator, apart so that the test is inlined.
  * std_alloc/src/vec/methods.rt
  */
-SMALL bool std_alloc_vec_Vec_grow_amortized_Option_u64(Vec_Slot *self, uint64_t additional) {
+COLD bool std_alloc_vec_Vec_grow_amortized_Option_u64(Vec_Slot *self, uint64_t additional) {
     uint64_t n_3;
     uint64_t n_8;
     uint64_t n_11;
@@ -42382,7 +43389,7 @@ SMALL slice_bool_2 std_alloc_vec_derefs_VecDerefSlice_deref_bool(const Vec_Slot 
 /* The sprites where the row says so.
  * crates/atlas_sheet/src/picking.rt
  */
-PART Result_Vec_Size_SheetError atlas_sheet_picking_picked(slice_bool_2 row, slice_Size sprites) {
+SMALL Result_Vec_Size_SheetError atlas_sheet_picking_picked(slice_bool_2 row, slice_Size sprites) {
     Result_Vec_Size_SheetError result;
     Vec_Slot vec_4;
     uint64_t n_5;
@@ -43208,7 +44215,7 @@ SMALL void std_alloc_vec_Vec_put_u64(Vec_Slot *self, uint64_t x) {
 /* The part of `grow` that asks the allocator, apart so that the test is inlined.
  * std_alloc/src/vec/methods.rt
  */
-SMALL bool std_alloc_vec_Vec_grow_amortized_Option_Placed(Vec_Slot *self, uint64_t additional) {
+COLD bool std_alloc_vec_Vec_grow_amortized_Option_Placed(Vec_Slot *self, uint64_t additional) {
     uint64_t n_3;
     uint64_t n_8;
     uint64_t n_11;
@@ -43339,16 +44346,38 @@ SMALL uint64_t std_alloc_vec_least_capacity_Link(void) {
     return n_2;
 }
 
-/* std_alloc/src/vec/ends.rt */
-SMALL void std_alloc_vec_Vec_truncate_within_Link_7(Vec_Slot *self, uint64_t n) {
-    uint64_t n_3;
-    Slots_CacheChange_u64 slots_4;
-    tuple_Slots_CacheChange_u64_Spare_CacheChange_u64 tuple_7;
-    n_3 = std_alloc_vec_Vec_len_Allocation(self);
-    tuple_7 = std_alloc_vec_Vec_detach_CacheChange_u64(self, n_3);
-    slots_4 = tuple_7.field_0;
-    std_alloc_vec_opened_drop_run_Link_7(&slots_4, n, n_3);
-    std_alloc_vec_Vec_attach_CacheChange_u64(self, slots_4, tuple_7.field_1, n);
+/* std_heap/src/lib.rt */
+SMALL Result_ptr std_heap_GlobalAllocator_grow_Marks(const void *self, void *ptr, uint64_t len, uint64_t _old_cap, uint64_t new_cap) {
+    uint64_t n_6;
+    Tried tried_7;
+    Result_ptr result_13;
+    (void)self;
+    (void)_old_cap;
+    n_6 = sizeof(atlas_search_Marks);
+    tried_7 = libc_heap_rattle_realloc(ptr, len * n_6, new_cap * n_6, 8u);
+    if (tried_7.ok) {
+        result_13 = new_Result_ptr_Ok(tried_7.p);
+    } else {
+        result_13 = new_Result_ptr_Err();
+    }
+    return result_13;
+}
+
+/* Drops the values from `from` up to `to`, in that order.
+ * std_alloc/src/vec/opened.rt
+ */
+SMALL void std_alloc_vec_opened_drop_run_Link_6(Slots_CacheChange_u64 *row, uint64_t from, uint64_t to) {
+    uint64_t n_4;
+    atlas_search_Link link_7;
+    n_4 = from;
+    for (;;) {
+        if (!(n_4 < to)) {
+            break;
+        }
+        link_7 = core_slots_Slots_take_Link(row, n_4);
+        core_mem_drop_Link_6(link_7);
+        n_4 = n_4 + 1u;
+    }
 }
 
 /* core/src/mem.rt */
@@ -43356,19 +44385,41 @@ SMALL void core_mem_drop_Slot_3(atlas_store_Slot x) {
     atlas_store_Destruct_none_drop_Slot(x);
 }
 
+/* Drops the values from `from` up to `to`, in that order.
+ * std_alloc/src/vec/opened.rt
+ */
+SMALL void std_alloc_vec_opened_drop_run_Link_7(Slots_CacheChange_u64 *row, uint64_t from, uint64_t to) {
+    uint64_t n_4;
+    atlas_search_Link link_7;
+    n_4 = from;
+    for (;;) {
+        if (!(n_4 < to)) {
+            break;
+        }
+        link_7 = core_slots_Slots_take_Link(row, n_4);
+        core_mem_drop_Link_7(link_7);
+        n_4 = n_4 + 1u;
+    }
+}
+
+/* core::slots::Slots::put */
+SMALL void core_slots_Slots_put_Link(Slots_CacheChange_u64 *given_1, uint64_t given_2, atlas_search_Link given_3) {
+    *((atlas_search_Link *)given_1->ptr + given_2) = given_3;
+}
+
+/* core/src/mem.rt */
+SMALL void core_mem_drop_Link_5(atlas_search_Link x) {
+    atlas_store_Destruct_none_drop_Link(x);
+}
+
+/* core/src/mem.rt */
+SMALL void core_mem_drop_Marks_4(const atlas_search_Marks x) {
+    atlas_store_Destruct_none_drop_Marks(x);
+}
+
 /* crates/atlas_store/src/slots/entry.rt */
 SMALL atlas_search_Link atlas_store_slots_entry_SlotEntry_up(const atlas_store_Slot *self) {
     return self->up;
-}
-
-/* crates/atlas_store/src/slots/entry.rt */
-SMALL atlas_search_Link atlas_store_slots_entry_SlotEntry_left(const atlas_store_Slot *self) {
-    return self->left;
-}
-
-/* crates/atlas_store/src/slots/entry.rt */
-SMALL atlas_search_Link atlas_store_slots_entry_SlotEntry_right(const atlas_store_Slot *self) {
-    return self->right;
 }
 
 /* crates/atlas_search/src/heap.rt */
@@ -43438,20 +44489,31 @@ SMALL void atlas_store_slots_entry_SlotLinked_set_links(atlas_store_Slot *self, 
     self->right = right;
 }
 
-/* Takes the mark of a place away.
- * crates/atlas_search/src/marks.rt
+/* Another slot, or none, comes first in a list that has a slot, where heads are stored.
+ * crates/atlas_search/src/table.rt
  */
-SMALL void atlas_search_marks_Marks_unmark(atlas_search_Marks *self, atlas_search_Place at) {
-    atlas_search_Mask mask_3;
-    atlas_search_Mask mask_21;
-    atlas_search_Mask mask_25;
-    mask_3 = atlas_search_masks_Mask_without(*((atlas_search_Mask *)(void *)&self->rows + at.row), at.column);
-    *((atlas_search_Mask *)(void *)&self->rows + at.row) = mask_3;
-    mask_25 = atlas_search_masks_Mask_without(*((atlas_search_Mask *)(void *)&self->columns + at.column), at.row);
-    *((atlas_search_Mask *)(void *)&self->columns + at.column) = mask_25;
-    if (atlas_search_masks_Mask_is_empty(mask_3)) {
-        mask_21 = atlas_search_masks_Mask_without(self->used, at.row);
-        self->used = mask_21;
+SMALL void atlas_search_table_set_first_in(Vec_Slot *heads, Vec_Slot *marks, uint64_t *emptied, uint64_t number, atlas_search_Link first) {
+    uint64_t n_6;
+    atlas_search_Link *at_7;
+    const atlas_search_Link *at_12;
+    atlas_search_Marks *at_17;
+    at_7 = std_alloc_vec_lends_VecIndexMutUsize_index_mut_Link(heads, number);
+    *at_7 = first;
+    if (first.number != 4294967295u) {
+        return;
+    }
+    if (*emptied != number) {
+        n_6 = *emptied;
+        *emptied = number;
+        if (n_6 < 2704u) {
+            at_12 = std_alloc_vec_derefs_VecIndexUsize_index_Link(heads, n_6);
+            if (at_12->number == 4294967295u) {
+                at_17 = std_alloc_vec_lends_VecIndexMutUsize_index_mut_Marks(marks, 0u);
+                atlas_search_marks_Marks_unmark(at_17, new_atlas_search_Place(n_6 / 52u, n_6 % 52u));
+                goto after_1;
+            }
+        }
+    after_1:;
     }
 }
 
@@ -43564,53 +44626,92 @@ SMALL atlas_search_Pair atlas_search_heap_in_order_Slot(slice_Slot entries, atla
     return pair_7;
 }
 
-/* Shows an entry to a search. Answers whether one that hangs below it may be better: where it is a fork, since else those have
- * its size and come no earlier, and where the best hasn't an equal side and comes no later.
- * crates/atlas_search/src/search.rt
+/* The `min` of a box as one number, the greater the later the box comes: the y, and below it the x.
+ * crates/atlas_search/src/best.rt
  */
-SMALL bool atlas_search_search_show_entry_Slot(const atlas_store_Slot *entry, atlas_search_Link at, atlas_search_Best *best) {
-    atlas_model_Rectangle rectangle_4;
-    uint64_t n_5;
-    rectangle_4 = atlas_store_slots_entry_SlotEntry_rectangle(entry);
-    n_5 = atlas_search_best_corner(rectangle_4);
-    if (atlas_search_best_Best_passes(best, n_5)) {
-        return false;
-    }
-    atlas_search_best_Best_look(best, rectangle_4, n_5, at);
-    if (atlas_search_best_Best_passes(best, n_5)) {
-        return false;
-    }
-    return atlas_store_slots_entry_SlotEntry_is_fork(entry);
+SMALL uint64_t atlas_search_best_corner(atlas_model_Rectangle rectangle) {
+    return ((uint64_t)rectangle.min_.y * UINT64_C(4294967296)) + (uint64_t)rectangle.min_.x;
 }
 
-/* Shows the entries of a heap with this top and of sizes of a cell to a search, but for those that can't be the best.
- * crates/atlas_search/src/search.rt
+/* Whether the best has an equal side and begins at this corner or before it: no box that begins there or later is
+ * better.
+ * crates/atlas_search/src/best.rt
  */
-PART void atlas_search_search_show_Slot(slice_Slot entries, atlas_search_Link at, atlas_search_Cell cell, atlas_search_Best *best) {
-    const atlas_store_Slot *at_5;
-    atlas_search_Halves halves_6;
-    bool is_10;
-    bool is_14;
-    atlas_search_Link link_18;
-    atlas_search_Link link_26;
-    if (!(entries.len <= (uint64_t)at.number)) {
-        is_10 = atlas_search_best_Best_may_be_in(best, cell);
-        if (!(!is_10)) {
-            goto after_2;
+SMALL bool atlas_search_best_Best_passes(const atlas_search_Best *self, uint64_t corner) {
+    return self->bar <= corner;
+}
+
+/* Shows the box of an entry, which has this corner.
+ * crates/atlas_search/src/best.rt
+ */
+SMALL void atlas_search_best_Best_look(atlas_search_Best *self, atlas_model_Rectangle rectangle, uint64_t corner, atlas_search_Link at) {
+    uint32_t n_5;
+    Option_u32 option_6;
+    atlas_model_Size size_10;
+    bool is_11;
+    uint32_t n_12;
+    uint64_t n_13;
+    uint64_t n_17;
+    uint32_t n_18;
+    option_6 = atlas_search_best_Best_rank_ahead(self, rectangle, corner);
+    if (option_6.tag == 1u /* Some */) {
+        n_5 = option_6.Some.field_0;
+        size_10 = self->size;
+        is_11 = self->is_large;
+        n_12 = n_5;
+        n_13 = corner;
+        if (n_5 == 0u) {
+            n_17 = corner;
+        } else {
+            n_17 = UINT64_C(18446744073709551615);
         }
+        n_18 = atlas_search_best_reach_of(self->is_large, n_5);
+        *self = new_atlas_search_Best(size_10, is_11, n_12, n_13, n_17, n_18, at);
     }
-    return;
-after_2:;
-    at_5 = ((atlas_store_Slot *)entries.at + (uint64_t)at.number);
-    is_14 = atlas_search_search_show_entry_Slot(at_5, at, best);
-    if (!is_14) {
-        return;
+}
+
+/* crates/atlas_store/src/slots/entry.rt */
+SMALL bool atlas_store_slots_entry_SlotEntry_is_fork(const atlas_store_Slot *self) {
+    return self->is_fork;
+}
+
+/* Whether it is divided by width.
+ * crates/atlas_search/src/cells.rt
+ */
+SMALL bool atlas_search_cells_Cell_is_cut_wide(atlas_search_Cell self) {
+    uint32_t n_2;
+    uint32_t n_3;
+    n_2 = self.right - self.left;
+    n_3 = self.bottom - self.top;
+    if (n_2 <= 1u) {
+        return false;
     }
-    halves_6 = atlas_search_cells_Cell_halves(cell);
-    link_18 = atlas_store_slots_entry_SlotEntry_left(at_5);
-    atlas_search_search_show_Slot(entries, link_18, halves_6.low, best);
-    link_26 = atlas_store_slots_entry_SlotEntry_right(at_5);
-    atlas_search_search_show_Slot(entries, link_26, halves_6.high, best);
+    if (n_2 < (n_3 + 1u)) {
+        return true;
+    }
+    return n_3 < 2u;
+}
+
+/* Where sides are divided.
+ * crates/atlas_search/src/cells.rt
+ */
+SMALL uint32_t atlas_search_cells_middle(uint32_t first, uint32_t end) {
+    return core_int_u32_min(first + ((end - first) / 2u), 2u * first);
+}
+
+/* Whether a box of a size in this cell may be better than the best: it may fit, and leave no more over than the best does, or anything
+ * where the request is large and the best has no equal side.
+ * crates/atlas_search/src/best.rt
+ */
+SMALL bool atlas_search_best_Best_may_be_in(const atlas_search_Best *self, atlas_search_Cell cell) {
+    bool is_3;
+    bool is_8;
+    is_3 = atlas_search_cells_Cell_is_below_ends(cell, self->size);
+    if (!is_3) {
+        return false;
+    }
+    is_8 = atlas_search_cells_Cell_is_beyond(cell, self->size, self->reach);
+    return !is_8;
 }
 
 /* std_heap/src/lib.rt */
@@ -43818,21 +44919,9 @@ SMALL void atlas_allocator_Destruct_none_drop_Link(atlas_search_Link given_1) {
     (void)given_1;
 }
 
-/* Drops the values from `from` up to `to`, in that order.
- * std_alloc/src/vec/opened.rt
- */
-SMALL void std_alloc_vec_opened_drop_run_Link_5(Slots_CacheChange_u64 *row, uint64_t from, uint64_t to) {
-    uint64_t n_4;
-    atlas_search_Link link_7;
-    n_4 = from;
-    for (;;) {
-        if (!(n_4 < to)) {
-            break;
-        }
-        link_7 = core_slots_Slots_take_Link(row, n_4);
-        core_mem_drop_Link_5(link_7);
-        n_4 = n_4 + 1u;
-    }
+/* atlas_allocator::Destruct++none::drop */
+SMALL void atlas_allocator_Destruct_none_drop_Marks(const atlas_search_Marks given_1) {
+    (void)given_1;
 }
 
 /* guillotiere_c::Destruct++none::drop */
@@ -43840,31 +44929,53 @@ SMALL void guillotiere_c_Destruct_none_drop_FreeBox(guillotiere_FreeBox given_1)
     (void)given_1;
 }
 
-/* Shows a list that begins with this to a search.
+/* Shows an entry to a search. Answers whether one that hangs below it may be better: where it is a fork, since else those have
+ * its size and come no earlier, and where the best hasn't an equal side and comes no later.
  * crates/atlas_search/src/search.rt
  */
-SMALL void atlas_search_search_show_list_FreeBox(slice_FreeBox entries, atlas_search_Link top, atlas_search_Best *best) {
-    const guillotiere_FreeBox *at_4;
-    atlas_search_Halves halves_5;
-    atlas_search_Cell cell_12;
-    atlas_model_Size size_13;
-    atlas_model_Rectangle rectangle_14;
-    atlas_search_Link link_16;
-    atlas_search_Link link_23;
-    if (entries.len <= (uint64_t)top.number) {
+SMALL bool atlas_search_search_show_entry_FreeBox(const guillotiere_FreeBox *entry, atlas_search_Link at, atlas_search_Best *best) {
+    atlas_model_Rectangle rectangle_4;
+    uint64_t n_5;
+    rectangle_4 = guillotiere_simple_boxes_FreeBoxEntry_rectangle(entry);
+    n_5 = atlas_search_best_corner(rectangle_4);
+    if (atlas_search_best_Best_passes(best, n_5)) {
+        return false;
+    }
+    atlas_search_best_Best_look(best, rectangle_4, n_5, at);
+    if (atlas_search_best_Best_passes(best, n_5)) {
+        return false;
+    }
+    return guillotiere_simple_boxes_FreeBoxEntry_is_fork(entry);
+}
+
+/* Shows the entries of a heap with this top and of sizes of a cell to a search, but for those that can't be the best.
+ * crates/atlas_search/src/search.rt
+ */
+PART void atlas_search_search_show_FreeBox(slice_FreeBox entries, atlas_search_Link at, atlas_search_Cell cell, atlas_search_Best *best) {
+    const guillotiere_FreeBox *at_5;
+    atlas_search_Halves halves_6;
+    bool is_10;
+    bool is_14;
+    atlas_search_Link link_18;
+    atlas_search_Link link_26;
+    if (!(entries.len <= (uint64_t)at.number)) {
+        is_10 = atlas_search_best_Best_may_be_in(best, cell);
+        if (!(!is_10)) {
+            goto after_2;
+        }
+    }
+    return;
+after_2:;
+    at_5 = ((guillotiere_FreeBox *)entries.at + (uint64_t)at.number);
+    is_14 = atlas_search_search_show_entry_FreeBox(at_5, at, best);
+    if (!is_14) {
         return;
     }
-    at_4 = ((guillotiere_FreeBox *)entries.at + (uint64_t)top.number);
-    if (atlas_search_search_show_entry_FreeBox(at_4, top, best)) {
-        rectangle_14 = guillotiere_simple_boxes_FreeBoxEntry_rectangle(at_4);
-        size_13 = atlas_search_cut_exact_size(rectangle_14);
-        cell_12 = atlas_search_cells_Cell_around(size_13);
-        halves_5 = atlas_search_cells_Cell_halves(cell_12);
-        link_16 = guillotiere_simple_boxes_FreeBoxEntry_left(at_4);
-        atlas_search_search_show_FreeBox(entries, link_16, halves_5.low, best);
-        link_23 = guillotiere_simple_boxes_FreeBoxEntry_right(at_4);
-        atlas_search_search_show_FreeBox(entries, link_23, halves_5.high, best);
-    }
+    halves_6 = atlas_search_cells_Cell_halves(cell);
+    link_18 = guillotiere_simple_boxes_FreeBoxEntry_left(at_5);
+    atlas_search_search_show_FreeBox(entries, link_18, halves_6.low, best);
+    link_26 = guillotiere_simple_boxes_FreeBoxEntry_right(at_5);
+    atlas_search_search_show_FreeBox(entries, link_26, halves_6.high, best);
 }
 
 /* What hangs below an entry becomes one heap, which hangs below `up`. Of a fork's two sides the top that comes first comes up.
@@ -43919,13 +45030,6 @@ SMALL void guillotiere_Destruct_none_drop_FreeBox(guillotiere_FreeBox given_1) {
 /* crates/atlas_search/src/heap.rt */
 SMALL bool atlas_search_heap_is_fork_FreeBox(slice_FreeBox entries, atlas_search_Link at) {
     return guillotiere_simple_boxes_FreeBoxEntry_is_fork(((guillotiere_FreeBox *)entries.at + (uint64_t)at.number));
-}
-
-/* The `min` of a box as one number, the greater the later the box comes: the y, and below it the x.
- * crates/atlas_search/src/best.rt
- */
-SMALL uint64_t atlas_search_best_corner(atlas_model_Rectangle rectangle) {
-    return ((uint64_t)rectangle.min_.y * UINT64_C(4294967296)) + (uint64_t)rectangle.min_.x;
 }
 
 /* The step of a side: so many sides from a multiple on.
@@ -43999,44 +45103,13 @@ SMALL atlas_search_Link atlas_search_heap_close_FreeBox(slice_FreeBox_2 entries,
     return atlas_search_heap_meld_FreeBox(new_slice_FreeBox_2(entries.at, entries.len), links_4.left, links_4.right, up);
 }
 
-/* Whether it is divided by width.
- * crates/atlas_search/src/cells.rt
- */
-SMALL bool atlas_search_cells_Cell_is_cut_wide(atlas_search_Cell self) {
-    uint32_t n_2;
-    uint32_t n_3;
-    n_2 = self.right - self.left;
-    n_3 = self.bottom - self.top;
-    if (n_2 <= 1u) {
-        return false;
-    }
-    if (n_2 < (n_3 + 1u)) {
-        return true;
-    }
-    return n_3 < 2u;
-}
-
-/* Where sides are divided.
- * crates/atlas_search/src/cells.rt
- */
-SMALL uint32_t atlas_search_cells_middle(uint32_t first, uint32_t end) {
-    return core_int_u32_min(first + ((end - first) / 2u), 2u * first);
-}
-
-/* std_alloc/src/vec/ends.rt */
-SMALL void std_alloc_vec_Vec_truncate_within_Link_8(Vec_Slot *self, uint64_t n) {
-    uint64_t n_3;
-    Slots_CacheChange_u64 slots_4;
-    tuple_Slots_CacheChange_u64_Spare_CacheChange_u64 tuple_7;
-    n_3 = std_alloc_vec_Vec_len_Allocation(self);
-    tuple_7 = std_alloc_vec_Vec_detach_CacheChange_u64(self, n_3);
-    slots_4 = tuple_7.field_0;
-    std_alloc_vec_opened_drop_run_Link_8(&slots_4, n, n_3);
-    std_alloc_vec_Vec_attach_CacheChange_u64(self, slots_4, tuple_7.field_1, n);
+/* guillotiere::Destruct++none::drop */
+SMALL void guillotiere_Destruct_none_drop_Link(atlas_search_Link given_1) {
+    (void)given_1;
 }
 
 /* guillotiere::Destruct++none::drop */
-SMALL void guillotiere_Destruct_none_drop_Link(atlas_search_Link given_1) {
+SMALL void guillotiere_Destruct_none_drop_Marks(const atlas_search_Marks given_1) {
     (void)given_1;
 }
 
@@ -44062,6 +45135,16 @@ SMALL void std_alloc_vec_Vec_truncate_Link_11(Vec_Slot *self, uint64_t n) {
         return;
     }
     std_alloc_vec_Vec_truncate_within_Link_11(self, n);
+}
+
+/* std_alloc/src/vec/ends.rt */
+SMALL void std_alloc_vec_Vec_truncate_Marks_6(Vec_Slot *self, uint64_t n) {
+    uint64_t n_3;
+    n_3 = std_alloc_vec_Vec_len_Allocation(self);
+    if (n_3 <= n) {
+        return;
+    }
+    std_alloc_vec_Vec_truncate_within_Marks_6(self, n);
 }
 
 /* The least capacity after a growth, as in Rust: 8 for elements of at most one byte, 4 for those
@@ -44326,7 +45409,7 @@ SMALL Result_AllocFailed_Link std_alloc_vec_Vec_push_Link(Vec_Slot *self, atlas_
     if (!is_3) {
         return new_Result_AllocFailed_Link_Err(new_AllocFailed_Link(value));
     }
-    std_alloc_vec_Vec_put_Link_3(self, value);
+    std_alloc_vec_Vec_put_Link(self, value);
     return new_Result_AllocFailed_Link_Ok();
 }
 
@@ -44358,73 +45441,207 @@ SMALL void std_alloc_vec_Vec_put_Entry_u64(Vec_Slot *self, atlas_entries_Entry_u
     self->len = n_3 + 1u;
 }
 
-/* The entry that was used next after this one; None if this is the most recently used.
- * crates/atlas_entries/src/recency.rt
+/* Whether a page is at its largest.
+ * crates/atlas_cache/src/rooms.rt
  */
-SMALL Option_u32 atlas_entries_recency_Recency_newer(const atlas_entries_Recency *self, uint32_t number) {
-    atlas_entries_Link link_3;
-    slice_Link_4 slice_4;
-    slice_4 = std_alloc_vec_derefs_VecDerefSlice_deref_Link_2(&self->links);
-    link_3 = atlas_entries_recency_links_read_link(slice_4, self->ends, number);
-    if (link_3.previous == 4294967295u) {
-        return new_Option_u32_None();
-    }
-    return new_Option_u32_Some(link_3.previous);
+SMALL bool atlas_cache_rooms_is_largest(atlas_model_Size size, atlas_model_Size largest) {
+    atlas_model_Size size_3;
+    atlas_model_Size size_4;
+    size_3 = size;
+    size_4 = largest;
+    return atlas_model_geometry_SizePartialEq_eq(&size_3, &size_4);
 }
 
-/* Begins a rehearsal on a page: no rectangle is shown as freed. An error: memory for the marks is refused, one for each slot of it.
+/* The least recently used entry that wasn't passed; None if all were. All that were used before it are blank.
+ * crates/atlas_entries/src/entries.rt
+ */
+SMALL Option_u32 atlas_entries_entries_Entries_unpassed_u64_BuildHasherDefault_FoldHasher_FoldHasher(const atlas_entries_Entries_u64_BuildHasherDefault_FoldHasher_FoldHasher *self) {
+    if (self->mark == 4294967295u) {
+        return atlas_entries_recency_Recency_oldest(&self->recency);
+    }
+    return atlas_entries_recency_Recency_newer(&self->recency, self->mark);
+}
+
+/* An entry is passed, until it is used, and all that were used before it, until they are. Requires that they are blank.
+ * crates/atlas_entries/src/entries.rt
+ */
+SMALL void atlas_entries_entries_Entries_pass_u64_BuildHasherDefault_FoldHasher_FoldHasher(atlas_entries_Entries_u64_BuildHasherDefault_FoldHasher_FoldHasher *self, uint32_t number) {
+    self->mark = number;
+}
+
+/* The entry that was used next after this one; None if this is the most recently used.
+ * crates/atlas_entries/src/entries.rt
+ */
+SMALL Option_u32 atlas_entries_entries_Entries_newer_u64_BuildHasherDefault_FoldHasher_FoldHasher(const atlas_entries_Entries_u64_BuildHasherDefault_FoldHasher_FoldHasher *self, uint32_t number) {
+    return atlas_entries_recency_Recency_newer(&self->recency, number);
+}
+
+/* The same on each page, which has marks of its own.
  * crates/atlas_cache/src/rooms/rehearsing.rt
  */
-SMALL Result atlas_cache_rooms_Rooms_show_none(const atlas_cache_Rooms *self, uint32_t page, Vec_Slot *marks) {
-    const atlas_allocator_AtlasAllocator *at_4;
-    const atlas_allocator_AtlasAllocator *at_8;
-    atlas_model_SlotCount slotcount_11;
-    ControlFlow controlflow_14;
-    Result result_15;
-    slice_bool_2 slice_17;
-    at_8 = std_alloc_vec_derefs_VecIndexUsize_index_AtlasAllocator(&self->pages, (uint64_t)page);
-    at_4 = at_8;
-    slotcount_11 = atlas_allocator_atlas_AtlasAllocator_slots(at_4);
-    std_alloc_vec_Vec_clear_bool(marks);
-    result_15 = std_alloc_vec_Vec_resize_bool(marks, (uint64_t)slotcount_11.kept, false);
-    controlflow_14 = core_result_ResultTry_branch(result_15);
-    if (!(controlflow_14.tag == 0u /* Continue */)) {
+SMALL Result atlas_cache_rooms_Rooms_show_none_on_all(const atlas_cache_Rooms *self, Vec_Slot *marks) {
+    uint32_t n_5;
+    ControlFlow controlflow_8;
+    Result result_9;
+    uint32_t n_11;
+    ControlFlow controlflow_13;
+    Result result_14;
+    Vec_Slot *at_15;
+    result_9 = atlas_cache_rooms_Rooms_add_marks(self, marks);
+    controlflow_8 = core_result_ResultTry_branch(result_9);
+    if (!(controlflow_8.tag == 0u /* Continue */)) {
         return core_result_ResultFromResidualErrResidual_from_residual();
     }
-    slice_17 = std_alloc_vec_derefs_VecDerefSlice_deref_bool(marks);
-    atlas_allocator_atlas_AtlasAllocator_prove_none_shown(at_4, slice_17);
+    n_5 = 0u;
+    n_11 = atlas_cache_rooms_Rooms_len(self);
+    for (;;) {
+        if (!(n_5 < n_11)) {
+            break;
+        }
+        at_15 = std_alloc_vec_lends_VecIndexMutUsize_index_mut_Vec_bool(marks, (uint64_t)n_5);
+        result_14 = atlas_cache_rooms_Rooms_show_none(self, n_5, at_15);
+        controlflow_13 = core_result_ResultTry_branch(result_14);
+        if (!(controlflow_13.tag == 0u /* Continue */)) {
+            return core_result_ResultFromResidualErrResidual_from_residual();
+        }
+        n_5 = n_5 + 1u;
+    }
     return new_Result_Ok();
 }
 
-/* Shows an entry as gone, if it lies on a page, with those that are shown already: the box that would come free, if the request fits it.
- * crates/atlas_cache/src/cache/vacating.rt
- */
-SMALL Option_Rectangle atlas_cache_cache_vacating_show_u64(const atlas_cache_Rooms *rooms, Vec_Slot *marks, atlas_model_Size asked,
-        atlas_entries_Entry_u64 entry) {
-    atlas_entries_Entry_u64 entry_5;
-    uint32_t n_8;
-    slice_bool slice_9;
-    Vec_Slot *at_10;
-    entry_5 = entry;
-    if (atlas_entries_entries_Entry_is_blank_u64(&entry_5)) {
-        return new_Option_Rectangle_None();
-    }
-    n_8 = entry_5.page;
-    at_10 = std_alloc_vec_lends_VecIndexMutUsize_index_mut_Vec_bool(marks, (uint64_t)entry_5.page);
-    slice_9 = std_alloc_vec_lends_VecDerefSliceMut_deref_mut_bool(at_10);
-    return atlas_cache_rooms_Rooms_rehearse(rooms, n_8, slice_9, entry_5.id, asked);
+/* core/src/result.rt */
+SMALL Result_Option_Vacancy core_result_ResultFromResidualErrResidual_from_residual_Option_Vacancy(void) {
+    core_convert_AnyFrom_from();
+    return new_Result_Option_Vacancy_Err();
 }
 
-/* Whether one coordinate is no greater than another, where those below 0 count as 0.
+/* As if the entries went in the order of use that a frame didn't use: the first box that comes free and that a request fits; None if even
+ * then no page has room.
  * crates/atlas_cache/src/cache/vacating.rt
  */
-SMALL bool atlas_cache_cache_vacating_is_no_greater(uint32_t a, uint32_t b) {
-    bool is_3;
-    is_3 = (int32_t)a <= (int32_t)0u;
-    if (!is_3) {
-        is_3 = (int32_t)a <= (int32_t)b;
+SMALL Option_Vacancy atlas_cache_cache_vacating_first_vacancy_u64_BuildHasherDefault_FoldHasher_FoldHasher(const atlas_cache_Rooms *rooms,
+        const atlas_entries_Entries_u64_BuildHasherDefault_FoldHasher_FoldHasher *entries, Vec_Slot *marks, uint64_t frame,
+        atlas_model_Size asked) {
+    Option_u32 option_6;
+    uint64_t n_7;
+    uint32_t n_8;
+    atlas_entries_Entry_u64 entry_9;
+    uint64_t n_12;
+    Option_Rectangle option_15;
+    atlas_entries_entries_Entries_prove_kept_u64_BuildHasherDefault_FoldHasher_FoldHasher(entries);
+    option_6 = atlas_entries_entries_Entries_oldest_u64_BuildHasherDefault_FoldHasher_FoldHasher(entries);
+    n_7 = 0u;
+    n_12 = atlas_entries_entries_Entries_len_u64_BuildHasherDefault_FoldHasher_FoldHasher(entries);
+    for (;;) {
+        if (!(n_7 < n_12)) {
+            break;
+        }
+        if (option_6.tag == 1u /* Some */) {
+            n_8 = option_6.Some.field_0;
+        } else {
+            return new_Option_Vacancy_None();
+        }
+        entry_9 = atlas_entries_entries_Entries_entry_u64_BuildHasherDefault_FoldHasher_FoldHasher(entries, n_8);
+        if (entry_9.frame == frame) {
+            return new_Option_Vacancy_None();
+        }
+        option_15 = atlas_cache_cache_vacating_show_u64(rooms, marks, asked, entry_9);
+        if (option_15.tag == 1u /* Some */) {
+            return new_Option_Vacancy_Some(new_atlas_cache_Vacancy(entry_9.page, option_15.Some.field_0, n_7 + 1u));
+        }
+        option_6 = atlas_entries_entries_Entries_newer_u64_BuildHasherDefault_FoldHasher_FoldHasher(entries, n_8);
+        n_7 = n_7 + 1u;
     }
-    return is_3;
+    return new_Option_Vacancy_None();
+}
+
+/* Whether an entry lies on a page inside a box.
+ * crates/atlas_cache/src/cache/vacating.rt
+ */
+SMALL bool atlas_cache_cache_vacating_lies_in_u64(const atlas_entries_Entry_u64 *entry, uint32_t page, const atlas_model_Rectangle *area) {
+    atlas_model_Rectangle rectangle_4;
+    atlas_model_Rectangle rectangle_5;
+    bool is_9;
+    bool is_11;
+    bool is_12;
+    rectangle_4 = *area;
+    rectangle_5 = entry->rectangle;
+    if (entry->page != page) {
+        return false;
+    }
+    is_12 = atlas_cache_cache_vacating_is_no_greater(rectangle_4.min_.x, rectangle_5.min_.x);
+    if (!(!is_12)) {
+        is_9 = atlas_cache_cache_vacating_is_no_greater(rectangle_4.min_.y, rectangle_5.min_.y);
+        if (!(!is_9)) {
+            goto after_2;
+        }
+    }
+    return false;
+after_2:;
+    is_11 = atlas_cache_cache_vacating_is_no_greater(rectangle_5.max_.x, rectangle_4.max_.x);
+    if (is_11) {
+        is_11 = atlas_cache_cache_vacating_is_no_greater(rectangle_5.max_.y, rectangle_4.max_.y);
+    }
+    return is_11;
+}
+
+/* An entry goes, and the change that says so is listed, if it lies on a page inside a box; whether it did.
+ * crates/atlas_cache/src/cache/vacating.rt
+ */
+SMALL void atlas_cache_cache_vacating_clear_one_u64_BuildHasherDefault_FoldHasher_FoldHasher(atlas_cache_Rooms *rooms,
+        atlas_entries_Entries_u64_BuildHasherDefault_FoldHasher_FoldHasher *entries, atlas_cache_Counts *counts, uint32_t number,
+        const atlas_cache_Vacancy *vacancy, Vec_Slot *changes) {
+    atlas_entries_Entry_u64 entry_7;
+    atlas_cache_Place place_8;
+    bool is_12;
+    atlas_cache_CacheOptions cacheoptions_19;
+    uint64_t n_24;
+    atlas_entries_Entry_u64 entry_28;
+    entry_7 = atlas_entries_entries_Entries_entry_u64_BuildHasherDefault_FoldHasher_FoldHasher(entries, number);
+    is_12 = atlas_cache_cache_vacating_lies_in_u64(&entry_7, vacancy->page, &vacancy->area);
+    if (!is_12) {
+        return;
+    }
+    entry_28 = entry_7;
+    cacheoptions_19 = atlas_cache_rooms_Rooms_options(rooms);
+    place_8 = atlas_cache_cache_holding_place_of_u64(entry_28, &cacheoptions_19);
+    atlas_cache_cache_holding_take_out_u64_BuildHasherDefault_FoldHasher_FoldHasher(rooms, entries, number, entry_7);
+    n_24 = atlas_cache_counts_count(counts->evictions);
+    counts->evictions = n_24;
+    std_alloc_vec_Vec_push_reserved_CacheChange_u64(changes, new_atlas_cache_CacheChange_u64_Evicted(entry_7.key, place_8));
+}
+
+/* Twice a side, up to the largest.
+ * crates/atlas_cache/src/rooms.rt
+ */
+SMALL uint32_t atlas_cache_rooms_doubled(uint32_t side, uint32_t most) {
+    uint32_t n_5;
+    if ((int32_t)(most - side) <= (int32_t)side) {
+        n_5 = most;
+    } else {
+        n_5 = side + side;
+    }
+    return n_5;
+}
+
+/* `Memory`, whatever was asked for.
+ * crates/atlas_entries/src/error.rt
+ */
+SMALL atlas_entries_CacheError atlas_entries_error_CacheErrorFromAllocFailed_from_AtlasAllocator(const AllocFailed_AtlasAllocator _error) {
+    atlas_entries_CacheError result;
+    result = new_atlas_entries_CacheError_Memory();
+    atlas_cache_atlas_allocator_atlas_AtlasAllocator_Destruct_drop(_error.value);
+    return result;
+}
+
+/* Appends x. There is spare capacity.
+ * std_alloc/src/vec/methods.rt
+ */
+SMALL void std_alloc_vec_Vec_put_Known(Vec_Slot *self, atlas_cache_Known x) {
+    uint64_t n_3;
+    n_3 = self->len;
+    *((atlas_cache_Known *)self->ptr + n_3) = x;
+    self->len = n_3 + 1u;
 }
 
 /* std_collections::index_table::IndexTable::swap_remove_by */
@@ -44486,7 +45703,7 @@ SMALL void std_alloc_vec_Vec_truncate_within_u32_Later_2(Vec_u64_Later *self, ui
 /* Drops the values from `from` up to `to`, in that order.
  * std_alloc/src/vec/opened.rt
  */
-SMALL void std_alloc_vec_opened_drop_run_Link_6(Slots_CacheChange_u64 *row, uint64_t from, uint64_t to) {
+SMALL void std_alloc_vec_opened_drop_run_Link_8(Slots_CacheChange_u64 *row, uint64_t from, uint64_t to) {
     uint64_t n_4;
     atlas_entries_Link link_7;
     n_4 = from;
@@ -44495,7 +45712,7 @@ SMALL void std_alloc_vec_opened_drop_run_Link_6(Slots_CacheChange_u64 *row, uint
             break;
         }
         link_7 = core_slots_Slots_take_Link_2(row, n_4);
-        core_mem_drop_Link_6(link_7);
+        core_mem_drop_Link_8(link_7);
         n_4 = n_4 + 1u;
     }
 }
@@ -44605,7 +45822,7 @@ SMALL void std_alloc_vec_Vec_truncate_within_Slot_5(Vec_Slot *self, uint64_t n) 
 }
 
 /* std_alloc/src/vec/ends.rt */
-SMALL void std_alloc_vec_Vec_truncate_within_Link_9(Vec_Slot *self, uint64_t n) {
+SMALL void std_alloc_vec_Vec_truncate_within_Link_10(Vec_Slot *self, uint64_t n) {
     uint64_t n_3;
     Slots_CacheChange_u64 slots_4;
     tuple_Slots_CacheChange_u64_Spare_CacheChange_u64 tuple_7;
@@ -44613,6 +45830,18 @@ SMALL void std_alloc_vec_Vec_truncate_within_Link_9(Vec_Slot *self, uint64_t n) 
     tuple_7 = std_alloc_vec_Vec_detach_CacheChange_u64(self, n_3);
     slots_4 = tuple_7.field_0;
     std_alloc_vec_opened_drop_run_Link_9(&slots_4, n, n_3);
+    std_alloc_vec_Vec_attach_CacheChange_u64(self, slots_4, tuple_7.field_1, n);
+}
+
+/* std_alloc/src/vec/ends.rt */
+SMALL void std_alloc_vec_Vec_truncate_within_Marks_5(Vec_Slot *self, uint64_t n) {
+    uint64_t n_3;
+    Slots_CacheChange_u64 slots_4;
+    tuple_Slots_CacheChange_u64_Spare_CacheChange_u64 tuple_7;
+    n_3 = std_alloc_vec_Vec_len_Allocation(self);
+    tuple_7 = std_alloc_vec_Vec_detach_CacheChange_u64(self, n_3);
+    slots_4 = tuple_7.field_0;
+    std_alloc_vec_opened_drop_run_Marks_5(&slots_4, n, n_3);
     std_alloc_vec_Vec_attach_CacheChange_u64(self, slots_4, tuple_7.field_1, n);
 }
 
@@ -44792,14 +46021,14 @@ SMALL void atlas_cache_atlas_store_store_Store_Destruct_drop(const atlas_store_S
 }
 
 /* std_heap/src/lib.rt */
-SMALL Result_ptr std_heap_GlobalAllocator_grow_Refusals(const void *self, void *ptr, uint64_t len, uint64_t _old_cap, uint64_t new_cap) {
+SMALL Result_ptr std_heap_GlobalAllocator_grow_Known(const void *self, void *ptr, uint64_t len, uint64_t _old_cap, uint64_t new_cap) {
     uint64_t n_6;
     Tried tried_7;
     Result_ptr result_13;
     (void)self;
     (void)_old_cap;
-    n_6 = sizeof(atlas_cache_Refusals);
-    tried_7 = libc_heap_rattle_realloc(ptr, len * n_6, new_cap * n_6, 4u);
+    n_6 = sizeof(atlas_cache_Known);
+    tried_7 = libc_heap_rattle_realloc(ptr, len * n_6, new_cap * n_6, 8u);
     if (tried_7.ok) {
         result_13 = new_Result_ptr_Ok(tried_7.p);
     } else {
@@ -44813,13 +46042,13 @@ SMALL Result_ptr std_heap_GlobalAllocator_grow_Refusals(const void *self, void *
  * so this asks `may_hold`: `isize::MAX` elements fit a block only if each has at most one byte.
  * std_alloc/src/vec.rt
  */
-SMALL uint64_t std_alloc_vec_least_capacity_Refusals(void) {
+SMALL uint64_t std_alloc_vec_least_capacity_Known(void) {
     uint64_t n_2;
     uint64_t n_5;
-    if (std_alloc_room_may_hold_Refusals(UINT64_C(9223372036854775807))) {
+    if (std_alloc_room_may_hold_Known(UINT64_C(9223372036854775807))) {
         n_2 = 8u;
     } else {
-        if (std_alloc_room_may_hold_Refusals(UINT64_C(9223372036854775807) / 1024u)) {
+        if (std_alloc_room_may_hold_Known(UINT64_C(9223372036854775807) / 1024u)) {
             n_5 = 4u;
         } else {
             n_5 = 1u;
@@ -44830,14 +46059,14 @@ SMALL uint64_t std_alloc_vec_least_capacity_Refusals(void) {
 }
 
 /* std_alloc/src/vec/ends.rt */
-SMALL void std_alloc_vec_Vec_truncate_within_Refusals_3(Vec_Slot *self, uint64_t n) {
+SMALL void std_alloc_vec_Vec_truncate_within_Known_3(Vec_Slot *self, uint64_t n) {
     uint64_t n_3;
     Slots_CacheChange_u64 slots_4;
     tuple_Slots_CacheChange_u64_Spare_CacheChange_u64 tuple_7;
     n_3 = std_alloc_vec_Vec_len_Allocation(self);
     tuple_7 = std_alloc_vec_Vec_detach_CacheChange_u64(self, n_3);
     slots_4 = tuple_7.field_0;
-    std_alloc_vec_opened_drop_run_Refusals_3(&slots_4, n, n_3);
+    std_alloc_vec_opened_drop_run_Known_3(&slots_4, n, n_3);
     std_alloc_vec_Vec_attach_CacheChange_u64(self, slots_4, tuple_7.field_1, n);
 }
 
@@ -44948,7 +46177,7 @@ SMALL bool std_alloc_room_may_hold_Link_2(uint64_t n) {
  * buffer is as it was.
  * std_alloc/src/vec.rt
  */
-SMALL Result_ptr std_alloc_vec_resize_Link_3(const void *alloc, void *ptr, uint64_t len, uint64_t old_cap, uint64_t new_cap) {
+SMALL Result_ptr std_alloc_vec_resize_Link_2(const void *alloc, void *ptr, uint64_t len, uint64_t old_cap, uint64_t new_cap) {
     Result_ptr result_9;
     Result_ptr result_10;
     Result_ptr result_12;
@@ -45031,8 +46260,8 @@ SMALL void core_mem_drop_AtlasAllocator_3(const atlas_allocator_AtlasAllocator x
 }
 
 /* core/src/mem.rt */
-SMALL void core_mem_drop_Refusals_2(atlas_cache_Refusals x) {
-    atlas_cache_Destruct_none_drop_Refusals(x);
+SMALL void core_mem_drop_Known_2(atlas_cache_Known x) {
+    atlas_cache_Destruct_none_drop_Known(x);
 }
 
 /* core/src/mem.rt */
@@ -45640,11 +46869,19 @@ SMALL void std_alloc_vec_Vec_drop_FreeBox_3(Vec_Slot given_1) {
 }
 
 /* std_alloc::vec::Vec::drop */
-SMALL void std_alloc_vec_Vec_drop_Link_13(Vec_Slot given_1) {
+SMALL void std_alloc_vec_Vec_drop_Link_12(Vec_Slot given_1) {
     Vec_Slot vec_2;
     vec_2 = given_1;
-    std_alloc_vec_Vec_clear_Link_13(&vec_2);
+    std_alloc_vec_Vec_clear_Link_12(&vec_2);
     std_alloc_vec_Vec_destroy_empty_Link_8(vec_2);
+}
+
+/* std_alloc::vec::Vec::drop */
+SMALL void std_alloc_vec_Vec_drop_Marks_7(Vec_Slot given_1) {
+    Vec_Slot vec_2;
+    vec_2 = given_1;
+    std_alloc_vec_Vec_clear_Marks_7(&vec_2);
+    std_alloc_vec_Vec_destroy_empty_Marks_7(vec_2);
 }
 
 /* std_alloc/src/vec/ends.rt */
@@ -45676,7 +46913,7 @@ SMALL void std_alloc_vec_Vec_drop_tuple_u64_Size_2(Vec_Slot given_1) {
 /* The part of `grow` that asks the allocator, apart so that the test is inlined.
  * std_alloc/src/vec/methods.rt
  */
-SMALL bool std_alloc_vec_Vec_grow_amortized_Placed(Vec_Slot *self, uint64_t additional) {
+COLD bool std_alloc_vec_Vec_grow_amortized_Placed(Vec_Slot *self, uint64_t additional) {
     uint64_t n_3;
     uint64_t n_8;
     uint64_t n_11;
@@ -47304,21 +48541,9 @@ SMALL void core_mem_drop_Slot_4(atlas_store_Slot x) {
     std_alloc_Destruct_none_drop_Slot(x);
 }
 
-/* Drops the values from `from` up to `to`, in that order.
- * std_alloc/src/vec/opened.rt
- */
-SMALL void std_alloc_vec_opened_drop_run_Link_7(Slots_CacheChange_u64 *row, uint64_t from, uint64_t to) {
-    uint64_t n_4;
-    atlas_search_Link link_7;
-    n_4 = from;
-    for (;;) {
-        if (!(n_4 < to)) {
-            break;
-        }
-        link_7 = core_slots_Slots_take_Link(row, n_4);
-        core_mem_drop_Link_7(link_7);
-        n_4 = n_4 + 1u;
-    }
+/* core/src/mem.rt */
+SMALL void core_mem_drop_Link_6(atlas_search_Link x) {
+    atlas_search_Destruct_none_drop_Link(x);
 }
 
 /* atlas_store::Destruct++none::drop */
@@ -47326,16 +48551,36 @@ SMALL void atlas_store_Destruct_none_drop_Slot(atlas_store_Slot given_1) {
     (void)given_1;
 }
 
-/* crates/atlas_store/src/slots/entry.rt */
-SMALL bool atlas_store_slots_entry_SlotEntry_is_fork(const atlas_store_Slot *self) {
-    return self->is_fork;
+/* core/src/mem.rt */
+SMALL void core_mem_drop_Link_7(atlas_search_Link x) {
+    std_alloc_Destruct_none_drop_Link(x);
 }
 
-/* The set without a number.
- * crates/atlas_search/src/masks.rt
+/* atlas_store::Destruct++none::drop */
+SMALL void atlas_store_Destruct_none_drop_Link(atlas_search_Link given_1) {
+    (void)given_1;
+}
+
+/* atlas_store::Destruct++none::drop */
+SMALL void atlas_store_Destruct_none_drop_Marks(const atlas_search_Marks given_1) {
+    (void)given_1;
+}
+
+/* Takes the mark of a place away.
+ * crates/atlas_search/src/marks.rt
  */
-SMALL atlas_search_Mask atlas_search_masks_Mask_without(atlas_search_Mask self, uint64_t k) {
-    return new_atlas_search_Mask(self.bits & (uint64_t)~(UINT64_C(1) << (k & 63u)));
+SMALL void atlas_search_marks_Marks_unmark(atlas_search_Marks *self, atlas_search_Place at) {
+    atlas_search_Mask mask_3;
+    atlas_search_Mask mask_21;
+    atlas_search_Mask mask_25;
+    mask_3 = atlas_search_masks_Mask_without(*((atlas_search_Mask *)(void *)&self->rows + at.row), at.column);
+    *((atlas_search_Mask *)(void *)&self->rows + at.row) = mask_3;
+    mask_25 = atlas_search_masks_Mask_without(*((atlas_search_Mask *)(void *)&self->columns + at.column), at.row);
+    *((atlas_search_Mask *)(void *)&self->columns + at.column) = mask_25;
+    if (atlas_search_masks_Mask_is_empty(mask_3)) {
+        mask_21 = atlas_search_masks_Mask_without(self->used, at.row);
+        self->used = mask_21;
+    }
 }
 
 /* Hangs a heap below the top of another one that comes before it. On the way down the right each passed entry's left goes
@@ -47372,56 +48617,55 @@ SMALL void atlas_search_heap_hang_Slot(slice_Slot_2 entries, atlas_search_Link t
     }
 }
 
-/* Whether the best has an equal side and begins at this corner or before it: no box that begins there or later is
- * better.
+/* The rank of a box with this corner, if it is to be kept rather than the best one.
  * crates/atlas_search/src/best.rt
  */
-SMALL bool atlas_search_best_Best_passes(const atlas_search_Best *self, uint64_t corner) {
-    return self->bar <= corner;
-}
-
-/* Shows the box of an entry, which has this corner.
- * crates/atlas_search/src/best.rt
- */
-SMALL void atlas_search_best_Best_look(atlas_search_Best *self, atlas_model_Rectangle rectangle, uint64_t corner, atlas_search_Link at) {
+SMALL Option_u32 atlas_search_best_Best_rank_ahead(const atlas_search_Best *self, atlas_model_Rectangle rectangle, uint64_t corner) {
+    uint32_t n_4;
     uint32_t n_5;
-    Option_u32 option_6;
-    atlas_model_Size size_10;
-    bool is_11;
-    uint32_t n_12;
-    uint64_t n_13;
-    uint64_t n_17;
-    uint32_t n_18;
-    option_6 = atlas_search_best_Best_rank_ahead(self, rectangle, corner);
-    if (option_6.tag == 1u /* Some */) {
-        n_5 = option_6.Some.field_0;
-        size_10 = self->size;
-        is_11 = self->is_large;
-        n_12 = n_5;
-        n_13 = corner;
-        if (n_5 == 0u) {
-            n_17 = corner;
-        } else {
-            n_17 = UINT64_C(18446744073709551615);
-        }
-        n_18 = atlas_search_best_reach_of(self->is_large, n_5);
-        *self = new_atlas_search_Best(size_10, is_11, n_12, n_13, n_17, n_18, at);
+    Option_u32 option_9;
+    n_4 = atlas_search_choice_margin_in(rectangle, self->size);
+    if ((int32_t)n_4 < (int32_t)0u) {
+        return new_Option_u32_None();
     }
+    n_5 = atlas_search_best_rank(self->is_large, n_4);
+    if (atlas_search_best_Best_is_beaten_by(self, n_5, corner)) {
+        option_9 = new_Option_u32_Some(n_5);
+    } else {
+        option_9 = new_Option_u32_None();
+    }
+    return option_9;
 }
 
-/* Whether a box of a size in this cell may be better than the best: it may fit, and leave no more over than the best does, or anything
- * where the request is large and the best has no equal side.
+/* How great the least margin of a box may be that is better than the best of this rank. For a large request that doesn't end, unless there
+ * is an equal side.
  * crates/atlas_search/src/best.rt
  */
-SMALL bool atlas_search_best_Best_may_be_in(const atlas_search_Best *self, atlas_search_Cell cell) {
-    bool is_3;
-    bool is_8;
-    is_3 = atlas_search_cells_Cell_is_below_ends(cell, self->size);
-    if (!is_3) {
-        return false;
+SMALL uint32_t atlas_search_best_reach_of(bool is_large, uint32_t rank) {
+    if (rank == 0u) {
+        return 0u;
     }
-    is_8 = atlas_search_cells_Cell_is_beyond(cell, self->size, self->reach);
-    return !is_8;
+    if (is_large) {
+        return 4294967295u;
+    }
+    if (2147483647u <= rank) {
+        return 4294967295u;
+    }
+    return rank;
+}
+
+/* Whether both sides of a size, and so much more, are before the first ones.
+ * crates/atlas_search/src/cells.rt
+ */
+SMALL bool atlas_search_cells_Cell_is_beyond(atlas_search_Cell self, atlas_model_Size size, uint32_t more) {
+    uint64_t n_5;
+    bool is_9;
+    is_9 = ((uint64_t)size.width + (uint64_t)more) < (uint64_t)self.left;
+    n_5 = (uint64_t)size.height + (uint64_t)more;
+    if (is_9) {
+        is_9 = n_5 < (uint64_t)self.top;
+    }
+    return is_9;
 }
 
 /* core::slots::lends::with_slots */
@@ -47619,58 +48863,9 @@ SMALL void core_slice_edits_mirror_Allocation(slice_Allocation_2 front, uint64_t
     }
 }
 
-/* core/src/mem.rt */
-SMALL void core_mem_drop_Link_5(atlas_search_Link x) {
-    atlas_store_Destruct_none_drop_Link(x);
-}
-
-/* Shows an entry to a search. Answers whether one that hangs below it may be better: where it is a fork, since else those have
- * its size and come no earlier, and where the best hasn't an equal side and comes no later.
- * crates/atlas_search/src/search.rt
- */
-SMALL bool atlas_search_search_show_entry_FreeBox(const guillotiere_FreeBox *entry, atlas_search_Link at, atlas_search_Best *best) {
-    atlas_model_Rectangle rectangle_4;
-    uint64_t n_5;
-    rectangle_4 = guillotiere_simple_boxes_FreeBoxEntry_rectangle(entry);
-    n_5 = atlas_search_best_corner(rectangle_4);
-    if (atlas_search_best_Best_passes(best, n_5)) {
-        return false;
-    }
-    atlas_search_best_Best_look(best, rectangle_4, n_5, at);
-    if (atlas_search_best_Best_passes(best, n_5)) {
-        return false;
-    }
-    return guillotiere_simple_boxes_FreeBoxEntry_is_fork(entry);
-}
-
-/* Shows the entries of a heap with this top and of sizes of a cell to a search, but for those that can't be the best.
- * crates/atlas_search/src/search.rt
- */
-PART void atlas_search_search_show_FreeBox(slice_FreeBox entries, atlas_search_Link at, atlas_search_Cell cell, atlas_search_Best *best) {
-    const guillotiere_FreeBox *at_5;
-    atlas_search_Halves halves_6;
-    bool is_10;
-    bool is_14;
-    atlas_search_Link link_18;
-    atlas_search_Link link_26;
-    if (!(entries.len <= (uint64_t)at.number)) {
-        is_10 = atlas_search_best_Best_may_be_in(best, cell);
-        if (!(!is_10)) {
-            goto after_2;
-        }
-    }
-    return;
-after_2:;
-    at_5 = ((guillotiere_FreeBox *)entries.at + (uint64_t)at.number);
-    is_14 = atlas_search_search_show_entry_FreeBox(at_5, at, best);
-    if (!is_14) {
-        return;
-    }
-    halves_6 = atlas_search_cells_Cell_halves(cell);
-    link_18 = guillotiere_simple_boxes_FreeBoxEntry_left(at_5);
-    atlas_search_search_show_FreeBox(entries, link_18, halves_6.low, best);
-    link_26 = guillotiere_simple_boxes_FreeBoxEntry_right(at_5);
-    atlas_search_search_show_FreeBox(entries, link_26, halves_6.high, best);
+/* crates/guillotiere/src/simple/boxes.rt */
+SMALL bool guillotiere_simple_boxes_FreeBoxEntry_is_fork(const guillotiere_FreeBox *self) {
+    return self->is_fork;
 }
 
 /* Whether the left one of two entries comes first: it is there, and the right one isn't, or comes no earlier.
@@ -47690,11 +48885,6 @@ SMALL bool atlas_search_heap_is_left_first_FreeBox(slice_FreeBox entries, atlas_
     return n_5 <= n_6;
 }
 
-/* crates/guillotiere/src/simple/boxes.rt */
-SMALL bool guillotiere_simple_boxes_FreeBoxEntry_is_fork(const guillotiere_FreeBox *self) {
-    return self->is_fork;
-}
-
 /* Hangs an entry, with all below it, to the left below another one. What was there hangs to the right then.
  * crates/atlas_search/src/heap.rt
  */
@@ -47712,23 +48902,6 @@ SMALL void atlas_search_heap_swap_below_FreeBox(slice_FreeBox_2 entries, atlas_s
     atlas_search_Links links_3;
     links_3 = atlas_search_heap_links_at_FreeBox(new_slice_FreeBox(entries.at, entries.len), above);
     atlas_search_heap_relink_FreeBox(new_slice_FreeBox_2(entries.at, entries.len), above, links_3.up, links_3.right, links_3.left);
-}
-
-/* Drops the values from `from` up to `to`, in that order.
- * std_alloc/src/vec/opened.rt
- */
-SMALL void std_alloc_vec_opened_drop_run_Link_8(Slots_CacheChange_u64 *row, uint64_t from, uint64_t to) {
-    uint64_t n_4;
-    atlas_search_Link link_7;
-    n_4 = from;
-    for (;;) {
-        if (!(n_4 < to)) {
-            break;
-        }
-        link_7 = core_slots_Slots_take_Link(row, n_4);
-        core_mem_drop_Link_8(link_7);
-        n_4 = n_4 + 1u;
-    }
 }
 
 /* std_alloc/src/vec/ends.rt */
@@ -47755,9 +48928,22 @@ SMALL void std_alloc_vec_Vec_truncate_within_Link_11(Vec_Slot *self, uint64_t n)
     std_alloc_vec_Vec_attach_CacheChange_u64(self, slots_4, tuple_7.field_1, n);
 }
 
+/* std_alloc/src/vec/ends.rt */
+SMALL void std_alloc_vec_Vec_truncate_within_Marks_6(Vec_Slot *self, uint64_t n) {
+    uint64_t n_3;
+    Slots_CacheChange_u64 slots_4;
+    tuple_Slots_CacheChange_u64_Spare_CacheChange_u64 tuple_7;
+    n_3 = std_alloc_vec_Vec_len_Allocation(self);
+    tuple_7 = std_alloc_vec_Vec_detach_CacheChange_u64(self, n_3);
+    slots_4 = tuple_7.field_0;
+    std_alloc_vec_opened_drop_run_Marks_6(&slots_4, n, n_3);
+    std_alloc_vec_Vec_attach_CacheChange_u64(self, slots_4, tuple_7.field_1, n);
+}
+
 /* atlas_pages::atlas_search++table++Table+Destruct::drop */
 SMALL void atlas_pages_atlas_search_table_Table_Destruct_drop(const atlas_search_Table given_1) {
-    std_alloc_vec_Vec_drop_Link_11(given_1.heads);
+    std_alloc_vec_Vec_drop_Link_10(given_1.heads);
+    std_alloc_vec_Vec_drop_Marks_6(given_1.marks);
 }
 
 /* guillotiere_c::Destruct++none::drop */
@@ -47888,7 +49074,7 @@ SMALL Slots_CacheChange_u64 core_slots_rooms_with_room_CacheChange_u64_tuple_Slo
 /* Appends x. There is spare capacity.
  * std_alloc/src/vec/methods.rt
  */
-SMALL void std_alloc_vec_Vec_put_Link_3(Vec_Slot *self, atlas_entries_Link x) {
+SMALL void std_alloc_vec_Vec_put_Link(Vec_Slot *self, atlas_entries_Link x) {
     uint64_t n_3;
     n_3 = self->len;
     *((atlas_entries_Link *)self->ptr + n_3) = x;
@@ -47905,43 +49091,73 @@ SMALL atlas_entries_CacheError atlas_entries_error_CacheErrorFromAllocFailed_fro
     return result;
 }
 
-/* Keeps the first n elements, and fills up to n with copies of x.
- * std_alloc/src/vec/ends.rt
+/* The entry that was used next after this one; None if this is the most recently used.
+ * crates/atlas_entries/src/recency.rt
  */
-SMALL Result std_alloc_vec_Vec_resize_bool(Vec_Slot *self, uint64_t n, bool value) {
-    uint64_t n_4;
-    n_4 = std_alloc_vec_Vec_len_Allocation(self);
-    if (n <= n_4) {
-        std_alloc_vec_Vec_truncate_bool_4(self, n);
-        return new_Result_Ok();
+SMALL Option_u32 atlas_entries_recency_Recency_newer(const atlas_entries_Recency *self, uint32_t number) {
+    atlas_entries_Link link_3;
+    slice_Link_4 slice_4;
+    slice_4 = std_alloc_vec_derefs_VecDerefSlice_deref_Link_2(&self->links);
+    link_3 = atlas_entries_recency_links_read_link(slice_4, self->ends, number);
+    if (link_3.previous == 4294967295u) {
+        return new_Option_u32_None();
     }
-    return std_alloc_vec_Vec_extend_with_bool(self, n - n_4, value);
+    return new_Option_u32_Some(link_3.previous);
 }
 
-/* States that marks that are all false show nothing, one for each slot that is kept (`slots`), and does nothing.
- * crates/atlas_allocator/src/atlas/rehearsing.rt
- */
-SMALL void atlas_allocator_atlas_AtlasAllocator_prove_none_shown(const atlas_allocator_AtlasAllocator *self, slice_bool_2 marks) {
-    (void)marks;
-    (void)atlas_store_store_Store_slots(&self->store);
-}
-
-/* Shows the rectangle of an id of a page as freed, with those that are shown already. The free box that there would be around it, if
- * a request fits that. Nothing changes on the page.
+/* Begins a rehearsal on a page: no rectangle is shown as freed. An error: memory for the marks is refused, one for each slot of it.
  * crates/atlas_cache/src/rooms/rehearsing.rt
  */
-SMALL Option_Rectangle atlas_cache_rooms_Rooms_rehearse(const atlas_cache_Rooms *self, uint32_t page, slice_bool marks,
-        atlas_model_AllocId id, atlas_model_Size asked) {
-    const atlas_allocator_AtlasAllocator *at_6;
-    atlas_model_Rectangle rectangle_7;
+SMALL Result atlas_cache_rooms_Rooms_show_none(const atlas_cache_Rooms *self, uint32_t page, Vec_Slot *marks) {
+    const atlas_allocator_AtlasAllocator *at_4;
     const atlas_allocator_AtlasAllocator *at_8;
+    atlas_model_SlotCount slotcount_11;
+    ControlFlow controlflow_14;
+    Result result_15;
+    slice_bool_2 slice_17;
     at_8 = std_alloc_vec_derefs_VecIndexUsize_index_AtlasAllocator(&self->pages, (uint64_t)page);
-    at_6 = at_8;
-    rectangle_7 = atlas_allocator_atlas_AtlasAllocator_rehearse(at_6, new_slice_bool(marks.at, marks.len), id);
-    if (atlas_allocator_atlas_AtlasAllocator_fits(at_6, asked, &rectangle_7)) {
-        return new_Option_Rectangle_Some(rectangle_7);
+    at_4 = at_8;
+    slotcount_11 = atlas_allocator_atlas_AtlasAllocator_slots(at_4);
+    std_alloc_vec_Vec_clear_bool(marks);
+    result_15 = std_alloc_vec_Vec_resize_bool(marks, (uint64_t)slotcount_11.kept, false);
+    controlflow_14 = core_result_ResultTry_branch(result_15);
+    if (!(controlflow_14.tag == 0u /* Continue */)) {
+        return core_result_ResultFromResidualErrResidual_from_residual();
     }
-    return new_Option_Rectangle_None();
+    slice_17 = std_alloc_vec_derefs_VecDerefSlice_deref_bool(marks);
+    atlas_allocator_atlas_AtlasAllocator_prove_none_shown(at_4, slice_17);
+    return new_Result_Ok();
+}
+
+/* Shows an entry as gone, if it lies on a page, with those that are shown already: the box that would come free, if the request fits it.
+ * crates/atlas_cache/src/cache/vacating.rt
+ */
+SMALL Option_Rectangle atlas_cache_cache_vacating_show_u64(const atlas_cache_Rooms *rooms, Vec_Slot *marks, atlas_model_Size asked,
+        atlas_entries_Entry_u64 entry) {
+    atlas_entries_Entry_u64 entry_5;
+    uint32_t n_8;
+    slice_bool slice_9;
+    Vec_Slot *at_10;
+    entry_5 = entry;
+    if (atlas_entries_entries_Entry_is_blank_u64(&entry_5)) {
+        return new_Option_Rectangle_None();
+    }
+    n_8 = entry_5.page;
+    at_10 = std_alloc_vec_lends_VecIndexMutUsize_index_mut_Vec_bool(marks, (uint64_t)entry_5.page);
+    slice_9 = std_alloc_vec_lends_VecDerefSliceMut_deref_mut_bool(at_10);
+    return atlas_cache_rooms_Rooms_rehearse(rooms, n_8, slice_9, entry_5.id, asked);
+}
+
+/* Whether one coordinate is no greater than another, where those below 0 count as 0.
+ * crates/atlas_cache/src/cache/vacating.rt
+ */
+SMALL bool atlas_cache_cache_vacating_is_no_greater(uint32_t a, uint32_t b) {
+    bool is_3;
+    is_3 = (int32_t)a <= (int32_t)0u;
+    if (!is_3) {
+        is_3 = (int32_t)a <= (int32_t)b;
+    }
+    return is_3;
 }
 
 /* std_collections::index_table::probe::find_slot */
@@ -48068,7 +49284,7 @@ SMALL void std_alloc_vec_opened_drop_run_u32_2(Slots_CacheChange_u64 *row, uint6
 }
 
 /* core/src/mem.rt */
-SMALL void core_mem_drop_Link_6(atlas_entries_Link x) {
+SMALL void core_mem_drop_Link_8(atlas_entries_Link x) {
     atlas_entries_Destruct_none_drop_Link(x);
 }
 
@@ -48227,6 +49443,23 @@ SMALL void std_alloc_vec_opened_drop_run_Link_9(Slots_CacheChange_u64 *row, uint
     }
 }
 
+/* Drops the values from `from` up to `to`, in that order.
+ * std_alloc/src/vec/opened.rt
+ */
+SMALL void std_alloc_vec_opened_drop_run_Marks_5(Slots_CacheChange_u64 *row, uint64_t from, uint64_t to) {
+    uint64_t n_4;
+    atlas_search_Marks marks_7;
+    n_4 = from;
+    for (;;) {
+        if (!(n_4 < to)) {
+            break;
+        }
+        marks_7 = core_slots_Slots_take_Marks(row, n_4);
+        core_mem_drop_Marks_5(marks_7);
+        n_4 = n_4 + 1u;
+    }
+}
+
 /* Sorts s, of which the elements below from are in order.
  * core/src/slice/sort/small.rt
  */
@@ -48369,21 +49602,22 @@ SMALL void core_mem_drop_Change_3(atlas_model_Change x) {
 /* atlas_cache::atlas_search++table++Table+Destruct::drop */
 SMALL void atlas_cache_atlas_search_table_Table_Destruct_drop(const atlas_search_Table given_1) {
     std_alloc_vec_Vec_drop_Link_9(given_1.heads);
+    std_alloc_vec_Vec_drop_Marks_5(given_1.marks);
 }
 
 /* Drops the values from `from` up to `to`, in that order.
  * std_alloc/src/vec/opened.rt
  */
-SMALL void std_alloc_vec_opened_drop_run_Refusals_3(Slots_CacheChange_u64 *row, uint64_t from, uint64_t to) {
+SMALL void std_alloc_vec_opened_drop_run_Known_3(Slots_CacheChange_u64 *row, uint64_t from, uint64_t to) {
     uint64_t n_4;
-    atlas_cache_Refusals refusals_7;
+    atlas_cache_Known known_7;
     n_4 = from;
     for (;;) {
         if (!(n_4 < to)) {
             break;
         }
-        refusals_7 = core_slots_Slots_take_Refusals(row, n_4);
-        core_mem_drop_Refusals_3(refusals_7);
+        known_7 = core_slots_Slots_take_Known(row, n_4);
+        core_mem_drop_Known_3(known_7);
         n_4 = n_4 + 1u;
     }
 }
@@ -48505,7 +49739,7 @@ SMALL void std_alloc_vec_opened_drop_run_Entry_u64_3(Slots_CacheChange_u64 *row,
 }
 
 /* atlas_cache::Destruct++none::drop */
-SMALL void atlas_cache_Destruct_none_drop_Refusals(atlas_cache_Refusals given_1) {
+SMALL void atlas_cache_Destruct_none_drop_Known(atlas_cache_Known given_1) {
     (void)given_1;
 }
 
@@ -49044,7 +50278,7 @@ SMALL void std_alloc_vec_Vec_destroy_empty_FreeBox_3(Vec_Slot self) {
 }
 
 /* std_alloc/src/vec/ends.rt */
-SMALL void std_alloc_vec_Vec_clear_Link_13(Vec_Slot *self) {
+SMALL void std_alloc_vec_Vec_clear_Link_12(Vec_Slot *self) {
     std_alloc_vec_Vec_truncate_Link_13(self, 0u);
 }
 
@@ -49053,6 +50287,19 @@ SMALL void std_alloc_vec_Vec_clear_Link_13(Vec_Slot *self) {
  */
 SMALL void std_alloc_vec_Vec_destroy_empty_Link_8(Vec_Slot self) {
     std_alloc_vec_Vec_free_block_Link(self);
+    atlas_sheet_Destruct_none_drop();
+}
+
+/* std_alloc/src/vec/ends.rt */
+SMALL void std_alloc_vec_Vec_clear_Marks_7(Vec_Slot *self) {
+    std_alloc_vec_Vec_truncate_Marks_7(self, 0u);
+}
+
+/* Frees an empty Vec, also where `T` is not `Drop`.
+ * std_alloc/src/vec/methods.rt
+ */
+SMALL void std_alloc_vec_Vec_destroy_empty_Marks_7(Vec_Slot self) {
+    std_alloc_vec_Vec_free_block_Marks(self);
     atlas_sheet_Destruct_none_drop();
 }
 
@@ -49739,7 +50986,7 @@ SMALL void std_alloc_Destruct_none_drop_Option_u64(Option_u64 given_1) {
 /* The part of `grow` that asks the allocator, apart so that the test is inlined.
  * std_alloc/src/vec/methods.rt
  */
-SMALL bool std_alloc_vec_Vec_grow_amortized_u64(Vec_Slot *self, uint64_t additional) {
+COLD bool std_alloc_vec_Vec_grow_amortized_u64(Vec_Slot *self, uint64_t additional) {
     uint64_t n_3;
     uint64_t n_8;
     uint64_t n_11;
@@ -50439,9 +51686,21 @@ SMALL void std_alloc_Destruct_none_drop_Slot(atlas_store_Slot given_1) {
     (void)given_1;
 }
 
-/* core/src/mem.rt */
-SMALL void core_mem_drop_Link_7(atlas_search_Link x) {
-    std_alloc_Destruct_none_drop_Link(x);
+/* atlas_search::Destruct++none::drop */
+SMALL void atlas_search_Destruct_none_drop_Link(atlas_search_Link given_1) {
+    (void)given_1;
+}
+
+/* std_alloc::Destruct++none::drop */
+SMALL void std_alloc_Destruct_none_drop_Link(atlas_search_Link given_1) {
+    (void)given_1;
+}
+
+/* The set without a number.
+ * crates/atlas_search/src/masks.rt
+ */
+SMALL atlas_search_Mask atlas_search_masks_Mask_without(atlas_search_Mask self, uint64_t k) {
+    return new_atlas_search_Mask(self.bits & (uint64_t)~(UINT64_C(1) << (k & 63u)));
 }
 
 /* Hangs an entry, with all below it, to the left below another one. What was there hangs to the right then.
@@ -50463,55 +51722,54 @@ SMALL void atlas_search_heap_swap_below_Slot(slice_Slot_2 entries, atlas_search_
     atlas_search_heap_relink_Slot(new_slice_Slot_2(entries.at, entries.len), above, links_3.up, links_3.right, links_3.left);
 }
 
-/* The rank of a box with this corner, if it is to be kept rather than the best one.
- * crates/atlas_search/src/best.rt
+/* The smaller of the two side differences, which is below 0 exactly if the size does not fit.
+ * crates/atlas_search/src/choice.rt
  */
-SMALL Option_u32 atlas_search_best_Best_rank_ahead(const atlas_search_Best *self, atlas_model_Rectangle rectangle, uint64_t corner) {
+SMALL uint32_t atlas_search_choice_margin_in(atlas_model_Rectangle rectangle, atlas_model_Size size) {
+    uint32_t n_3;
     uint32_t n_4;
-    uint32_t n_5;
-    Option_u32 option_9;
-    n_4 = atlas_search_choice_margin_in(rectangle, self->size);
-    if ((int32_t)n_4 < (int32_t)0u) {
-        return new_Option_u32_None();
-    }
-    n_5 = atlas_search_best_rank(self->is_large, n_4);
-    if (atlas_search_best_Best_is_beaten_by(self, n_5, corner)) {
-        option_9 = new_Option_u32_Some(n_5);
+    uint32_t n_6;
+    n_3 = atlas_search_choice_spare(rectangle.min_.x, rectangle.max_.x, size.width);
+    n_4 = atlas_search_choice_spare(rectangle.min_.y, rectangle.max_.y, size.height);
+    if ((int32_t)n_3 < (int32_t)n_4) {
+        n_6 = n_3;
     } else {
-        option_9 = new_Option_u32_None();
+        n_6 = n_4;
     }
-    return option_9;
+    return n_6;
 }
 
-/* How great the least margin of a box may be that is better than the best of this rank. For a large request that doesn't end, unless there
- * is an equal side.
+/* The rank of a box with this least margin.
  * crates/atlas_search/src/best.rt
  */
-SMALL uint32_t atlas_search_best_reach_of(bool is_large, uint32_t rank) {
-    if (rank == 0u) {
-        return 0u;
-    }
+SMALL uint32_t atlas_search_best_rank(bool is_large, uint32_t margin) {
+    uint32_t n_3;
     if (is_large) {
-        return 4294967295u;
+        if ((int32_t)0u < (int32_t)margin) {
+            n_3 = 2147483647u - margin;
+            goto after_1;
+        }
     }
-    if (2147483647u <= rank) {
-        return 4294967295u;
-    }
-    return rank;
+    n_3 = margin;
+after_1:;
+    return n_3;
 }
 
-/* Whether both sides of a size, and so much more, are before the first ones.
- * crates/atlas_search/src/cells.rt
+/* Whether a box of this rank with this corner is to be kept rather than the best one.
+ * crates/atlas_search/src/best.rt
  */
-SMALL bool atlas_search_cells_Cell_is_beyond(atlas_search_Cell self, atlas_model_Size size, uint32_t more) {
-    uint64_t n_5;
-    bool is_9;
-    is_9 = ((uint64_t)size.width + (uint64_t)more) < (uint64_t)self.left;
-    n_5 = (uint64_t)size.height + (uint64_t)more;
-    if (is_9) {
-        is_9 = n_5 < (uint64_t)self.top;
+SMALL bool atlas_search_best_Best_is_beaten_by(const atlas_search_Best *self, uint32_t rank, uint64_t corner) {
+    bool is_4;
+    bool is_6;
+    is_4 = rank < self->rank;
+    if (!is_4) {
+        is_6 = rank == self->rank;
+        if (is_6) {
+            is_6 = corner < self->corner;
+        }
+        is_4 = is_6;
     }
-    return is_9;
+    return is_4;
 }
 
 /* core/src/ops.rt */
@@ -50648,16 +51906,6 @@ SMALL void core_mem_swap_Allocation(atlas_model_Allocation *x, atlas_model_Alloc
     *at_4 = allocation_5;
 }
 
-/* atlas_store::Destruct++none::drop */
-SMALL void atlas_store_Destruct_none_drop_Link(atlas_search_Link given_1) {
-    (void)given_1;
-}
-
-/* core/src/mem.rt */
-SMALL void core_mem_drop_Link_8(atlas_search_Link x) {
-    atlas_search_Destruct_none_drop_Link(x);
-}
-
 /* Drops the values from `from` up to `to`, in that order.
  * std_alloc/src/vec/opened.rt
  */
@@ -50688,6 +51936,23 @@ SMALL void std_alloc_vec_opened_drop_run_Link_10(Slots_CacheChange_u64 *row, uin
         }
         link_7 = core_slots_Slots_take_Link(row, n_4);
         core_mem_drop_Link_10(link_7);
+        n_4 = n_4 + 1u;
+    }
+}
+
+/* Drops the values from `from` up to `to`, in that order.
+ * std_alloc/src/vec/opened.rt
+ */
+SMALL void std_alloc_vec_opened_drop_run_Marks_6(Slots_CacheChange_u64 *row, uint64_t from, uint64_t to) {
+    uint64_t n_4;
+    atlas_search_Marks marks_7;
+    n_4 = from;
+    for (;;) {
+        if (!(n_4 < to)) {
+            break;
+        }
+        marks_7 = core_slots_Slots_take_Marks(row, n_4);
+        core_mem_drop_Marks_6(marks_7);
         n_4 = n_4 + 1u;
     }
 }
@@ -50772,77 +52037,43 @@ SMALL void atlas_entries_Destruct_none_drop_Link(atlas_entries_Link given_1) {
     (void)given_1;
 }
 
-/* std_alloc/src/vec/ends.rt */
-SMALL void std_alloc_vec_Vec_truncate_bool_4(Vec_Slot *self, uint64_t n) {
-    uint64_t n_3;
-    n_3 = std_alloc_vec_Vec_len_Allocation(self);
-    if (n_3 <= n) {
-        return;
-    }
-    std_alloc_vec_Vec_truncate_within_bool_4(self, n);
-}
-
-/* Appends n copies of x.
+/* Keeps the first n elements, and fills up to n with copies of x.
  * std_alloc/src/vec/ends.rt
  */
-SMALL Result std_alloc_vec_Vec_extend_with_bool(Vec_Slot *self, uint64_t n, bool x) {
+SMALL Result std_alloc_vec_Vec_resize_bool(Vec_Slot *self, uint64_t n, bool value) {
     uint64_t n_4;
-    Slots_CacheChange_u64 slots_5;
-    bool is_7;
-    tuple_Slots_CacheChange_u64_Spare_CacheChange_u64 tuple_12;
-    is_7 = std_alloc_vec_Vec_grow_bool(self, n);
-    if (!is_7) {
-        return new_Result_Err();
-    }
     n_4 = std_alloc_vec_Vec_len_Allocation(self);
-    tuple_12 = std_alloc_vec_Vec_detach_CacheChange_u64(self, n_4 + n);
-    slots_5 = tuple_12.field_0;
-    std_alloc_vec_opened_fill_run_bool(&slots_5, n_4, n_4 + n, x);
-    std_alloc_vec_Vec_attach_CacheChange_u64(self, slots_5, tuple_12.field_1, n_4 + n);
-    return new_Result_Ok();
-}
-
-/* Shows a live id as freed, in addition to those that the marks show, and leaves the atlas as it is. The answer is the free
- * rectangle that would be around its rectangle, were all that is shown freed. Requires a live id that isn't shown yet. There is a
- * mark for each slot that is kept (`slots`); at first all are false (`prove_none_shown`). One step for each container that is shown
- * with it, and for each member beside these that is free or shown; no memory.
- * crates/atlas_allocator/src/atlas/rehearsing.rt
- */
-SMALL atlas_model_Rectangle atlas_allocator_atlas_AtlasAllocator_rehearse(const atlas_allocator_AtlasAllocator *self, slice_bool marks,
-        atlas_model_AllocId id) {
-    uint32_t n_5;
-    slice_Slot slice_6;
-    n_5 = atlas_store_slots_walks_slot_number(id);
-    slice_6 = atlas_store_store_Store_slots(&self->store);
-    return atlas_store_slots_rehearsing_show(slice_6, new_slice_bool(marks.at, marks.len), new_atlas_search_Link(n_5));
-}
-
-/* Whether a request, rounded up, fits a rectangle: its size isn't empty, and neither side passes that of the rectangle. Requires
- * coordinates that aren't negative.
- * crates/atlas_allocator/src/atlas/rehearsing.rt
- */
-SMALL bool atlas_allocator_atlas_AtlasAllocator_fits(const atlas_allocator_AtlasAllocator *self, atlas_model_Size requested_size,
-        const atlas_model_Rectangle *area) {
-    uint32_t n_4;
-    uint32_t n_5;
-    atlas_model_Size size_6;
-    Option_Size option_7;
-    bool is_9;
-    bool is_10;
-    n_4 = atlas_model_geometry_Rectangle_width(area);
-    n_5 = atlas_model_geometry_Rectangle_height(area);
-    option_7 = atlas_store_store_Store_rounded(&self->store, requested_size);
-    if (option_7.tag == 1u /* Some */) {
-        size_6 = option_7.Some.field_0;
-        is_10 = (int32_t)size_6.width <= (int32_t)n_4;
-        if (is_10) {
-            is_10 = (int32_t)size_6.height <= (int32_t)n_5;
-        }
-        is_9 = is_10;
-    } else {
-        is_9 = false;
+    if (n <= n_4) {
+        std_alloc_vec_Vec_truncate_bool_4(self, n);
+        return new_Result_Ok();
     }
-    return is_9;
+    return std_alloc_vec_Vec_extend_with_bool(self, n - n_4, value);
+}
+
+/* States that marks that are all false show nothing, one for each slot that is kept (`slots`), and does nothing.
+ * crates/atlas_allocator/src/atlas/rehearsing.rt
+ */
+SMALL void atlas_allocator_atlas_AtlasAllocator_prove_none_shown(const atlas_allocator_AtlasAllocator *self, slice_bool_2 marks) {
+    (void)marks;
+    (void)atlas_store_store_Store_slots(&self->store);
+}
+
+/* Shows the rectangle of an id of a page as freed, with those that are shown already. The free box that there would be around it, if
+ * a request fits that. Nothing changes on the page.
+ * crates/atlas_cache/src/rooms/rehearsing.rt
+ */
+SMALL Option_Rectangle atlas_cache_rooms_Rooms_rehearse(const atlas_cache_Rooms *self, uint32_t page, slice_bool marks,
+        atlas_model_AllocId id, atlas_model_Size asked) {
+    const atlas_allocator_AtlasAllocator *at_6;
+    atlas_model_Rectangle rectangle_7;
+    const atlas_allocator_AtlasAllocator *at_8;
+    at_8 = std_alloc_vec_derefs_VecIndexUsize_index_AtlasAllocator(&self->pages, (uint64_t)page);
+    at_6 = at_8;
+    rectangle_7 = atlas_allocator_atlas_AtlasAllocator_rehearse(at_6, new_slice_bool(marks.at, marks.len), id);
+    if (atlas_allocator_atlas_AtlasAllocator_fits(at_6, asked, &rectangle_7)) {
+        return new_Option_Rectangle_Some(rectangle_7);
+    }
+    return new_Option_Rectangle_None();
 }
 
 /* std_collections::Destruct++none::drop */
@@ -51055,6 +52286,11 @@ SMALL void core_mem_drop_Link_9(atlas_search_Link x) {
     atlas_cache_Destruct_none_drop_Link(x);
 }
 
+/* core/src/mem.rt */
+SMALL void core_mem_drop_Marks_5(const atlas_search_Marks x) {
+    atlas_cache_Destruct_none_drop_Marks(x);
+}
+
 /* core::slots::lends::with_slots */
 SMALL void core_slots_lends_with_slots_Change_u64(slice_Change_2 given_1, void *given_2, uint64_t given_3) {
     uint64_t n_5;
@@ -51250,8 +52486,8 @@ SMALL void core_slice_edits_mirror_Change(slice_Change_2 front, uint64_t low, sl
 }
 
 /* core/src/mem.rt */
-SMALL void core_mem_drop_Refusals_3(atlas_cache_Refusals x) {
-    std_alloc_Destruct_none_drop_Refusals(x);
+SMALL void core_mem_drop_Known_3(atlas_cache_Known x) {
+    std_alloc_Destruct_none_drop_Known(x);
 }
 
 /* core::int::u32::to_le_bytes */
@@ -51325,7 +52561,7 @@ SMALL Result std_alloc_vec_Vec_reserve_Bucket_Later(Vec_u64_Later *self, uint64_
 /* The part of `grow` that asks the allocator, apart so that the test is inlined.
  * std_alloc/src/vec/methods.rt
  */
-SMALL bool std_alloc_vec_Vec_grow_amortized_u64_Later(Vec_u64_Later *self, uint64_t additional) {
+COLD bool std_alloc_vec_Vec_grow_amortized_u64_Later(Vec_u64_Later *self, uint64_t additional) {
     uint64_t n_3;
     uint64_t n_8;
     uint64_t n_11;
@@ -51343,7 +52579,7 @@ SMALL bool std_alloc_vec_Vec_grow_amortized_u64_Later(Vec_u64_Later *self, uint6
 /* The part of `grow` that asks the allocator, apart so that the test is inlined.
  * std_alloc/src/vec/methods.rt
  */
-SMALL bool std_alloc_vec_Vec_grow_amortized_u32_Later(Vec_u64_Later *self, uint64_t additional) {
+COLD bool std_alloc_vec_Vec_grow_amortized_u32_Later(Vec_u64_Later *self, uint64_t additional) {
     uint64_t n_3;
     uint64_t n_8;
     uint64_t n_11;
@@ -51934,10 +53170,20 @@ SMALL void std_alloc_vec_Vec_truncate_Link_13(Vec_Slot *self, uint64_t n) {
     std_alloc_vec_Vec_truncate_within_Link_13(self, n);
 }
 
+/* std_alloc/src/vec/ends.rt */
+SMALL void std_alloc_vec_Vec_truncate_Marks_7(Vec_Slot *self, uint64_t n) {
+    uint64_t n_3;
+    n_3 = std_alloc_vec_Vec_len_Allocation(self);
+    if (n_3 <= n) {
+        return;
+    }
+    std_alloc_vec_Vec_truncate_within_Marks_7(self, n);
+}
+
 /* The part of `grow` that asks the allocator, apart so that the test is inlined.
  * std_alloc/src/vec/methods.rt
  */
-SMALL bool std_alloc_vec_Vec_grow_amortized_tuple_u64_Size(Vec_Slot *self, uint64_t additional) {
+COLD bool std_alloc_vec_Vec_grow_amortized_tuple_u64_Size(Vec_Slot *self, uint64_t additional) {
     uint64_t n_3;
     uint64_t n_8;
     uint64_t n_11;
@@ -53016,59 +54262,11 @@ SMALL Result_ptr std_heap_GlobalAllocator_grow_Option_Placed(const void *self, v
     return result_13;
 }
 
-/* std_alloc::Destruct++none::drop */
-SMALL void std_alloc_Destruct_none_drop_Link(atlas_search_Link given_1) {
-    (void)given_1;
-}
-
-/* The smaller of the two side differences, which is below 0 exactly if the size does not fit.
+/* What a side leaves of a stretch, which is below 0 exactly if it does not fit.
  * crates/atlas_search/src/choice.rt
  */
-SMALL uint32_t atlas_search_choice_margin_in(atlas_model_Rectangle rectangle, atlas_model_Size size) {
-    uint32_t n_3;
-    uint32_t n_4;
-    uint32_t n_6;
-    n_3 = atlas_search_choice_spare(rectangle.min_.x, rectangle.max_.x, size.width);
-    n_4 = atlas_search_choice_spare(rectangle.min_.y, rectangle.max_.y, size.height);
-    if ((int32_t)n_3 < (int32_t)n_4) {
-        n_6 = n_3;
-    } else {
-        n_6 = n_4;
-    }
-    return n_6;
-}
-
-/* The rank of a box with this least margin.
- * crates/atlas_search/src/best.rt
- */
-SMALL uint32_t atlas_search_best_rank(bool is_large, uint32_t margin) {
-    uint32_t n_3;
-    if (is_large) {
-        if ((int32_t)0u < (int32_t)margin) {
-            n_3 = 2147483647u - margin;
-            goto after_1;
-        }
-    }
-    n_3 = margin;
-after_1:;
-    return n_3;
-}
-
-/* Whether a box of this rank with this corner is to be kept rather than the best one.
- * crates/atlas_search/src/best.rt
- */
-SMALL bool atlas_search_best_Best_is_beaten_by(const atlas_search_Best *self, uint32_t rank, uint64_t corner) {
-    bool is_4;
-    bool is_6;
-    is_4 = rank < self->rank;
-    if (!is_4) {
-        is_6 = rank == self->rank;
-        if (is_6) {
-            is_6 = corner < self->corner;
-        }
-        is_4 = is_6;
-    }
-    return is_4;
+SMALL uint32_t atlas_search_choice_spare(uint32_t from, uint32_t to, uint32_t side) {
+    return (to - from) - side;
 }
 
 /* core/src/slice/sort/small.rt */
@@ -53174,6 +54372,11 @@ SMALL void core_mem_drop_Link_10(atlas_search_Link x) {
     atlas_pages_Destruct_none_drop_Link(x);
 }
 
+/* core/src/mem.rt */
+SMALL void core_mem_drop_Marks_6(const atlas_search_Marks x) {
+    atlas_pages_Destruct_none_drop_Marks(x);
+}
+
 /* Drops the values from `from` up to `to`, in that order.
  * std_alloc/src/vec/opened.rt
  */
@@ -53258,58 +54461,76 @@ SMALL tuple_Slots_CacheChange_u64_Slots_CacheChange_u64 core_slice_edits_either_
 }
 
 /* std_alloc/src/vec/ends.rt */
-SMALL void std_alloc_vec_Vec_truncate_within_bool_4(Vec_Slot *self, uint64_t n) {
+SMALL void std_alloc_vec_Vec_truncate_bool_4(Vec_Slot *self, uint64_t n) {
     uint64_t n_3;
-    Slots_CacheChange_u64 slots_4;
-    tuple_Slots_CacheChange_u64_Spare_CacheChange_u64 tuple_7;
     n_3 = std_alloc_vec_Vec_len_Allocation(self);
-    tuple_7 = std_alloc_vec_Vec_detach_CacheChange_u64(self, n_3);
-    slots_4 = tuple_7.field_0;
-    std_alloc_vec_opened_drop_run_bool_4(&slots_4, n, n_3);
-    std_alloc_vec_Vec_attach_CacheChange_u64(self, slots_4, tuple_7.field_1, n);
+    if (n_3 <= n) {
+        return;
+    }
+    std_alloc_vec_Vec_truncate_within_bool_4(self, n);
 }
 
-/* Puts x in each place from `from` up to `to`. The loop writes nothing else, so that it can become a `memset` or vector code.
- * std_alloc/src/vec/opened.rt
+/* Appends n copies of x.
+ * std_alloc/src/vec/ends.rt
  */
-SMALL void std_alloc_vec_opened_fill_run_bool(Slots_CacheChange_u64 *row, uint64_t from, uint64_t to, bool x) {
-    uint64_t n_5;
-    n_5 = from;
-    for (;;) {
-        if (!(n_5 < to)) {
-            break;
-        }
-        core_slots_Slots_put_bool(row, n_5, x);
-        n_5 = n_5 + 1u;
+SMALL Result std_alloc_vec_Vec_extend_with_bool(Vec_Slot *self, uint64_t n, bool x) {
+    uint64_t n_4;
+    Slots_CacheChange_u64 slots_5;
+    bool is_7;
+    tuple_Slots_CacheChange_u64_Spare_CacheChange_u64 tuple_12;
+    is_7 = std_alloc_vec_Vec_grow_bool(self, n);
+    if (!is_7) {
+        return new_Result_Err();
     }
+    n_4 = std_alloc_vec_Vec_len_Allocation(self);
+    tuple_12 = std_alloc_vec_Vec_detach_CacheChange_u64(self, n_4 + n);
+    slots_5 = tuple_12.field_0;
+    std_alloc_vec_opened_fill_run_bool(&slots_5, n_4, n_4 + n, x);
+    std_alloc_vec_Vec_attach_CacheChange_u64(self, slots_5, tuple_12.field_1, n_4 + n);
+    return new_Result_Ok();
 }
 
-/* Shows an allocated leaf as free, and each container that has no other member left. The answer is the free box that would be around
- * it, were all that is shown freed.
- * crates/atlas_store/src/slots/rehearsing.rt
+/* Shows a live id as freed, in addition to those that the marks show, and leaves the atlas as it is. The answer is the free
+ * rectangle that would be around its rectangle, were all that is shown freed. Requires a live id that isn't shown yet. There is a
+ * mark for each slot that is kept (`slots`); at first all are false (`prove_none_shown`). One step for each container that is shown
+ * with it, and for each member beside these that is free or shown; no memory.
+ * crates/atlas_allocator/src/atlas/rehearsing.rt
  */
-SMALL atlas_model_Rectangle atlas_store_slots_rehearsing_show(slice_Slot slots, slice_bool marks, atlas_search_Link leaf) {
-    atlas_model_Rectangle result;
-    atlas_search_Link link_4;
-    atlas_store_Node node_5;
-    atlas_store_Node node_6;
-    atlas_search_Link link_10;
-    bool is_15;
-    atlas_search_Link link_21;
-    link_4 = leaf;
-    for (;;) {
-        *(marks.at + (uint64_t)link_4.number) = true;
-        link_10 = atlas_store_slots_rehearsing_first_open(slots, new_slice_bool_2(marks.at, marks.len), link_4);
-        node_5 = atlas_store_slots_read_node(slots, link_10);
-        link_21 = atlas_store_slots_rehearsing_last_open(slots, new_slice_bool_2(marks.at, marks.len), link_4);
-        node_6 = atlas_store_slots_read_node(slots, link_21);
-        is_15 = atlas_store_slots_rehearsing_fills_container(&node_5, &node_6);
-        if (!is_15) {
-            return new_atlas_model_Rectangle(node_5.area.min_, node_6.area.max_);
+SMALL atlas_model_Rectangle atlas_allocator_atlas_AtlasAllocator_rehearse(const atlas_allocator_AtlasAllocator *self, slice_bool marks,
+        atlas_model_AllocId id) {
+    uint32_t n_5;
+    slice_Slot slice_6;
+    n_5 = atlas_store_slots_walks_slot_number(id);
+    slice_6 = atlas_store_store_Store_slots(&self->store);
+    return atlas_store_slots_rehearsing_show(slice_6, new_slice_bool(marks.at, marks.len), new_atlas_search_Link(n_5));
+}
+
+/* Whether a request, rounded up, fits a rectangle: its size isn't empty, and neither side passes that of the rectangle. Requires
+ * coordinates that aren't negative.
+ * crates/atlas_allocator/src/atlas/rehearsing.rt
+ */
+SMALL bool atlas_allocator_atlas_AtlasAllocator_fits(const atlas_allocator_AtlasAllocator *self, atlas_model_Size requested_size,
+        const atlas_model_Rectangle *area) {
+    uint32_t n_4;
+    uint32_t n_5;
+    atlas_model_Size size_6;
+    Option_Size option_7;
+    bool is_9;
+    bool is_10;
+    n_4 = atlas_model_geometry_Rectangle_width(area);
+    n_5 = atlas_model_geometry_Rectangle_height(area);
+    option_7 = atlas_store_store_Store_rounded(&self->store, requested_size);
+    if (option_7.tag == 1u /* Some */) {
+        size_6 = option_7.Some.field_0;
+        is_10 = (int32_t)size_6.width <= (int32_t)n_4;
+        if (is_10) {
+            is_10 = (int32_t)size_6.height <= (int32_t)n_5;
         }
-        link_4 = node_5.parent;
+        is_9 = is_10;
+    } else {
+        is_9 = false;
     }
-    return result;
+    return is_9;
 }
 
 /* std_collections::hash_map::fn::HashMap::take::eq */
@@ -53494,6 +54715,11 @@ SMALL void atlas_cache_Destruct_none_drop_Link(atlas_search_Link given_1) {
     (void)given_1;
 }
 
+/* atlas_cache::Destruct++none::drop */
+SMALL void atlas_cache_Destruct_none_drop_Marks(const atlas_search_Marks given_1) {
+    (void)given_1;
+}
+
 /* core/src/ops.rt */
 SMALL tuple_Slots_CacheChange_u64 core_core_slice_sort_small_insert_each_FnOnce_call_once_Change(Slots_CacheChange_u64 given_2,
         uint64_t given_4) {
@@ -53605,7 +54831,7 @@ SMALL void core_mem_swap_Change(atlas_model_Change *x, atlas_model_Change *y) {
 }
 
 /* std_alloc::Destruct++none::drop */
-SMALL void std_alloc_Destruct_none_drop_Refusals(atlas_cache_Refusals given_1) {
+SMALL void std_alloc_Destruct_none_drop_Known(atlas_cache_Known given_1) {
     (void)given_1;
 }
 
@@ -53757,7 +54983,7 @@ SMALL atlas_model_Size guillotiere_c_sheet_fn_sizes_of_map(void *given_1, const 
 /* The part of `grow` that asks the allocator, apart so that the test is inlined.
  * std_alloc/src/vec/methods.rt
  */
-SMALL bool std_alloc_vec_Vec_grow_amortized_Trial(Vec_Slot *self, uint64_t additional) {
+COLD bool std_alloc_vec_Vec_grow_amortized_Trial(Vec_Slot *self, uint64_t additional) {
     uint64_t n_3;
     uint64_t n_8;
     uint64_t n_11;
@@ -54091,6 +55317,18 @@ SMALL void std_alloc_vec_Vec_truncate_within_Link_13(Vec_Slot *self, uint64_t n)
     std_alloc_vec_Vec_attach_CacheChange_u64(self, slots_4, tuple_7.field_1, n);
 }
 
+/* std_alloc/src/vec/ends.rt */
+SMALL void std_alloc_vec_Vec_truncate_within_Marks_7(Vec_Slot *self, uint64_t n) {
+    uint64_t n_3;
+    Slots_CacheChange_u64 slots_4;
+    tuple_Slots_CacheChange_u64_Spare_CacheChange_u64 tuple_7;
+    n_3 = std_alloc_vec_Vec_len_Allocation(self);
+    tuple_7 = std_alloc_vec_Vec_detach_CacheChange_u64(self, n_3);
+    slots_4 = tuple_7.field_0;
+    std_alloc_vec_opened_drop_run_Marks_7(&slots_4, n, n_3);
+    std_alloc_vec_Vec_attach_CacheChange_u64(self, slots_4, tuple_7.field_1, n);
+}
+
 /* The least capacity after a growth, as in Rust: 8 for elements of at most one byte, 4 for those
  * of up to 1,024 bytes, and else 1. The borrow checker covers `size_of::<T>()` only in a product,
  * so this asks `may_hold`: `isize::MAX` elements fit a block only if each has at most one byte.
@@ -54371,7 +55609,7 @@ SMALL tuple_u64_u64 core_slots_lends_with_slots_tuple_u64_Size_Sorter_tuple_u64_
 /* The part of `grow` that asks the allocator, apart so that the test is inlined.
  * std_alloc/src/vec/methods.rt
  */
-SMALL bool std_alloc_vec_Vec_grow_amortized_FreeBox_2(Vec_Slot *self, uint64_t additional) {
+COLD bool std_alloc_vec_Vec_grow_amortized_FreeBox_2(Vec_Slot *self, uint64_t additional) {
     uint64_t n_3;
     uint64_t n_8;
     uint64_t n_11;
@@ -54588,7 +55826,7 @@ SMALL uint32_t atlas_sheet_cells_signed(uint32_t number) {
 /* The part of `grow` that asks the allocator, apart so that the test is inlined.
  * std_alloc/src/vec/methods.rt
  */
-SMALL bool std_alloc_vec_Vec_grow_amortized_Option_Rectangle(Vec_Slot *self, uint64_t additional) {
+COLD bool std_alloc_vec_Vec_grow_amortized_Option_Rectangle(Vec_Slot *self, uint64_t additional) {
     uint64_t n_3;
     uint64_t n_8;
     uint64_t n_11;
@@ -54969,13 +56207,6 @@ SMALL uint64_t atlas_sheet_sheets_fn_numbers_of_map(void *given_1, const tuple_u
     return given_2->field_0;
 }
 
-/* What a side leaves of a stretch, which is below 0 exactly if it does not fit.
- * crates/atlas_search/src/choice.rt
- */
-SMALL uint32_t atlas_search_choice_spare(uint32_t from, uint32_t to, uint32_t side) {
-    return (to - from) - side;
-}
-
 /* Moves row[i] down past the greater elements before it.
  * core/src/slice/sort/small.rt
  */
@@ -55319,6 +56550,11 @@ SMALL void atlas_pages_Destruct_none_drop_Link(atlas_search_Link given_1) {
     (void)given_1;
 }
 
+/* atlas_pages::Destruct++none::drop */
+SMALL void atlas_pages_Destruct_none_drop_Marks(const atlas_search_Marks given_1) {
+    (void)given_1;
+}
+
 /* core/src/mem.rt */
 SMALL void core_mem_drop_bool_3(bool x) {
     guillotiere_c_Destruct_none_drop_bool(x);
@@ -55373,87 +56609,59 @@ SMALL tuple_Slots_CacheChange_u64_Slots_CacheChange_u64 core_slice_edits_back_wa
     return new_tuple_Slots_CacheChange_u64_Slots_CacheChange_u64(slots_3, slots_4);
 }
 
-/* Drops the values from `from` up to `to`, in that order.
+/* std_alloc/src/vec/ends.rt */
+SMALL void std_alloc_vec_Vec_truncate_within_bool_4(Vec_Slot *self, uint64_t n) {
+    uint64_t n_3;
+    Slots_CacheChange_u64 slots_4;
+    tuple_Slots_CacheChange_u64_Spare_CacheChange_u64 tuple_7;
+    n_3 = std_alloc_vec_Vec_len_Allocation(self);
+    tuple_7 = std_alloc_vec_Vec_detach_CacheChange_u64(self, n_3);
+    slots_4 = tuple_7.field_0;
+    std_alloc_vec_opened_drop_run_bool_4(&slots_4, n, n_3);
+    std_alloc_vec_Vec_attach_CacheChange_u64(self, slots_4, tuple_7.field_1, n);
+}
+
+/* Puts x in each place from `from` up to `to`. The loop writes nothing else, so that it can become a `memset` or vector code.
  * std_alloc/src/vec/opened.rt
  */
-SMALL void std_alloc_vec_opened_drop_run_bool_4(Slots_CacheChange_u64 *row, uint64_t from, uint64_t to) {
-    uint64_t n_4;
-    bool is_7;
-    n_4 = from;
+SMALL void std_alloc_vec_opened_fill_run_bool(Slots_CacheChange_u64 *row, uint64_t from, uint64_t to, bool x) {
+    uint64_t n_5;
+    n_5 = from;
     for (;;) {
-        if (!(n_4 < to)) {
+        if (!(n_5 < to)) {
             break;
         }
-        is_7 = core_slots_Slots_take_bool(row, n_4);
-        core_mem_drop_bool_4(is_7);
-        n_4 = n_4 + 1u;
+        core_slots_Slots_put_bool(row, n_5, x);
+        n_5 = n_5 + 1u;
     }
 }
 
-/* core::slots::Slots::put */
-SMALL void core_slots_Slots_put_bool(Slots_CacheChange_u64 *given_1, uint64_t given_2, bool given_3) {
-    *((bool *)given_1->ptr + (given_2 * sizeof(bool))) = given_3;
-}
-
-/* The first of the open members of a sequence that come without a gap before the one at a slot, or this one.
+/* Shows an allocated leaf as free, and each container that has no other member left. The answer is the free box that would be around
+ * it, were all that is shown freed.
  * crates/atlas_store/src/slots/rehearsing.rt
  */
-SMALL atlas_search_Link atlas_store_slots_rehearsing_first_open(slice_Slot slots, slice_bool_2 marks, atlas_search_Link at) {
-    atlas_search_Link result;
+SMALL atlas_model_Rectangle atlas_store_slots_rehearsing_show(slice_Slot slots, slice_bool marks, atlas_search_Link leaf) {
+    atlas_model_Rectangle result;
     atlas_search_Link link_4;
-    atlas_search_Link link_5;
+    atlas_store_Node node_5;
     atlas_store_Node node_6;
-    bool is_7;
-    link_4 = at;
+    atlas_search_Link link_10;
+    bool is_15;
+    atlas_search_Link link_21;
+    link_4 = leaf;
     for (;;) {
-        node_6 = atlas_store_slots_read_node(slots, link_4);
-        link_5 = node_6.previous;
-        is_7 = atlas_store_slots_rehearsing_is_open(slots, marks, link_5);
-        if (!is_7) {
-            return link_4;
+        *(marks.at + (uint64_t)link_4.number) = true;
+        link_10 = atlas_store_slots_rehearsing_first_open(slots, new_slice_bool_2(marks.at, marks.len), link_4);
+        node_5 = atlas_store_slots_read_node(slots, link_10);
+        link_21 = atlas_store_slots_rehearsing_last_open(slots, new_slice_bool_2(marks.at, marks.len), link_4);
+        node_6 = atlas_store_slots_read_node(slots, link_21);
+        is_15 = atlas_store_slots_rehearsing_fills_container(&node_5, &node_6);
+        if (!is_15) {
+            return new_atlas_model_Rectangle(node_5.area.min_, node_6.area.max_);
         }
-        link_4 = link_5;
+        link_4 = node_5.parent;
     }
     return result;
-}
-
-/* The last of those that come without a gap after it, or this one.
- * crates/atlas_store/src/slots/rehearsing.rt
- */
-SMALL atlas_search_Link atlas_store_slots_rehearsing_last_open(slice_Slot slots, slice_bool_2 marks, atlas_search_Link at) {
-    atlas_search_Link result;
-    atlas_search_Link link_4;
-    atlas_search_Link link_5;
-    atlas_store_Node node_6;
-    bool is_7;
-    link_4 = at;
-    for (;;) {
-        node_6 = atlas_store_slots_read_node(slots, link_4);
-        link_5 = node_6.next;
-        is_7 = atlas_store_slots_rehearsing_is_open(slots, marks, link_5);
-        if (!is_7) {
-            return link_4;
-        }
-        link_4 = link_5;
-    }
-    return result;
-}
-
-/* Whether a run that begins and ends with these members is all that a container holds.
- * crates/atlas_store/src/slots/rehearsing.rt
- */
-SMALL bool atlas_store_slots_rehearsing_fills_container(const atlas_store_Node *low, const atlas_store_Node *high) {
-    bool is_3;
-    bool is_4;
-    is_4 = low->previous.number == 4294967295u;
-    if (is_4) {
-        is_4 = high->next.number == 4294967295u;
-    }
-    is_3 = is_4;
-    if (is_3) {
-        is_3 = low->parent.number != 4294967295u;
-    }
-    return is_3;
 }
 
 /* core/src/ops.rt */
@@ -55733,7 +56941,7 @@ SMALL void std_alloc_vec_opened_drop_run_Group_2(Slots_CacheChange_u64 *row, uin
 /* The part of `grow` that asks the allocator, apart so that the test is inlined.
  * std_alloc/src/vec/methods.rt
  */
-SMALL bool std_alloc_vec_Vec_grow_amortized_Group_Later(Vec_u64_Later *self, uint64_t additional) {
+COLD bool std_alloc_vec_Vec_grow_amortized_Group_Later(Vec_u64_Later *self, uint64_t additional) {
     uint64_t n_3;
     uint64_t n_8;
     uint64_t n_11;
@@ -55756,7 +56964,7 @@ SMALL void core_slots_Slots_put_Group(Slots_CacheChange_u64 *given_1, uint64_t g
 /* The part of `grow` that asks the allocator, apart so that the test is inlined.
  * std_alloc/src/vec/methods.rt
  */
-SMALL bool std_alloc_vec_Vec_grow_amortized_Bucket_Later(Vec_u64_Later *self, uint64_t additional) {
+COLD bool std_alloc_vec_Vec_grow_amortized_Bucket_Later(Vec_u64_Later *self, uint64_t additional) {
     uint64_t n_3;
     uint64_t n_8;
     uint64_t n_11;
@@ -55901,8 +57109,11 @@ SMALL Result_Option_Vec_Option_Placed_SheetError atlas_sheet_places_find_all(sli
     Option_Rectangle option_37;
     atlas_model_Rectangle *at_38;
     guillotiere_FreeBoxes freeboxes_46;
-    guillotiere_FreeBoxes freeboxes_59;
-    guillotiere_FreeBoxes freeboxes_64;
+    atlas_search_Table table_48;
+    guillotiere_FreeBoxes freeboxes_63;
+    atlas_search_Table table_65;
+    guillotiere_FreeBoxes freeboxes_69;
+    atlas_search_Table table_71;
     result_19 = std_alloc_vec_Vec_from_elem_Rectangle(new_atlas_model_Rectangle(new_atlas_model_Point(0u, 0u), new_atlas_model_Point(0u,
             0u)), sprites.len);
     controlflow_18 = core_result_ResultTry_branch_Vec_AllocId(result_19);
@@ -55937,7 +57148,9 @@ SMALL Result_Option_Vec_Option_Placed_SheetError atlas_sheet_places_find_all(sli
             result = core_result_ResultFromResidualErrResidual_from_residual_Option_Vec_Option_Placed_SheetError_SheetError(controlflow_33.is.Break.field_0);
             freeboxes_46 = simpleatlasallocator_10.boxes;
             std_alloc_vec_Vec_drop_FreeBox_3(freeboxes_46.entries);
-            std_alloc_vec_Vec_drop_Link_13(freeboxes_46.table.heads);
+            table_48 = freeboxes_46.table;
+            std_alloc_vec_Vec_drop_Link_12(table_48.heads);
+            std_alloc_vec_Vec_drop_Marks_7(table_48.marks);
             std_alloc_vec_Vec_drop_Rectangle_4(vec_7);
             return result;
         }
@@ -55947,18 +57160,22 @@ SMALL Result_Option_Vec_Option_Placed_SheetError atlas_sheet_places_find_all(sli
             *at_38 = option_32.Some.field_0;
         } else {
             result = new_Result_Option_Vec_Option_Placed_SheetError_Ok(new_Option_Vec_Option_Placed_None());
-            freeboxes_59 = simpleatlasallocator_10.boxes;
-            std_alloc_vec_Vec_drop_FreeBox_3(freeboxes_59.entries);
-            std_alloc_vec_Vec_drop_Link_13(freeboxes_59.table.heads);
+            freeboxes_63 = simpleatlasallocator_10.boxes;
+            std_alloc_vec_Vec_drop_FreeBox_3(freeboxes_63.entries);
+            table_65 = freeboxes_63.table;
+            std_alloc_vec_Vec_drop_Link_12(table_65.heads);
+            std_alloc_vec_Vec_drop_Marks_7(table_65.marks);
             std_alloc_vec_Vec_drop_Rectangle_4(vec_7);
             return result;
         }
         n_13 = n_13 + 1u;
     }
     result = new_Result_Option_Vec_Option_Placed_SheetError_Ok(new_Option_Vec_Option_Placed_Some(vec_7));
-    freeboxes_64 = simpleatlasallocator_10.boxes;
-    std_alloc_vec_Vec_drop_FreeBox_3(freeboxes_64.entries);
-    std_alloc_vec_Vec_drop_Link_13(freeboxes_64.table.heads);
+    freeboxes_69 = simpleatlasallocator_10.boxes;
+    std_alloc_vec_Vec_drop_FreeBox_3(freeboxes_69.entries);
+    table_71 = freeboxes_69.table;
+    std_alloc_vec_Vec_drop_Link_12(table_71.heads);
+    std_alloc_vec_Vec_drop_Marks_7(table_71.marks);
     return result;
 }
 
@@ -56204,6 +57421,23 @@ SMALL void std_alloc_vec_opened_drop_run_Link_12(Slots_CacheChange_u64 *row, uin
         }
         link_7 = core_slots_Slots_take_Link(row, n_4);
         core_mem_drop_Link_12(link_7);
+        n_4 = n_4 + 1u;
+    }
+}
+
+/* Drops the values from `from` up to `to`, in that order.
+ * std_alloc/src/vec/opened.rt
+ */
+SMALL void std_alloc_vec_opened_drop_run_Marks_7(Slots_CacheChange_u64 *row, uint64_t from, uint64_t to) {
+    uint64_t n_4;
+    atlas_search_Marks marks_7;
+    n_4 = from;
+    for (;;) {
+        if (!(n_4 < to)) {
+            break;
+        }
+        marks_7 = core_slots_Slots_take_Marks(row, n_4);
+        core_mem_drop_Marks_7(marks_7);
         n_4 = n_4 + 1u;
     }
 }
@@ -56853,6 +58087,11 @@ SMALL Option_bool core_iter_closures_MapIterator_next_bool_Iter_Option_u64_map_S
     return new_Option_bool_Some(is_9);
 }
 
+/* core::slots::Slots::put */
+SMALL void core_slots_Slots_put_bool(Slots_CacheChange_u64 *given_1, uint64_t given_2, bool given_3) {
+    *((bool *)given_1->ptr + (given_2 * sizeof(bool))) = given_3;
+}
+
 /* core/src/option.rt */
 SMALL ControlFlow_ref_Option_u64 core_option_OptionTry_branch_ref_Option_u64(Option_ref_Option_u64 self) {
     ControlFlow_ref_Option_u64 controlflow_3;
@@ -57141,30 +58380,82 @@ SMALL void core_slots_Slots_move_run_CacheChange_u64(Slots_CacheChange_u64 *self
             (void *)((uint8_t *)other->ptr + (to * sizeof(atlas_cache_CacheChange_u64))), count);
 }
 
-/* core/src/mem.rt */
-SMALL void core_mem_drop_bool_4(bool x) {
-    std_alloc_Destruct_none_drop_bool(x);
+/* Drops the values from `from` up to `to`, in that order.
+ * std_alloc/src/vec/opened.rt
+ */
+SMALL void std_alloc_vec_opened_drop_run_bool_4(Slots_CacheChange_u64 *row, uint64_t from, uint64_t to) {
+    uint64_t n_4;
+    bool is_7;
+    n_4 = from;
+    for (;;) {
+        if (!(n_4 < to)) {
+            break;
+        }
+        is_7 = core_slots_Slots_take_bool(row, n_4);
+        core_mem_drop_bool_4(is_7);
+        n_4 = n_4 + 1u;
+    }
 }
 
-/* Whether there is a member at a slot that is free or shown as free.
+/* The first of the open members of a sequence that come without a gap before the one at a slot, or this one.
  * crates/atlas_store/src/slots/rehearsing.rt
  */
-SMALL bool atlas_store_slots_rehearsing_is_open(slice_Slot slots, slice_bool_2 marks, atlas_search_Link at) {
-    bool is_4;
-    bool is_5;
-    atlas_store_Node node_7;
-    const atlas_store_NodeKind *at_9;
-    is_4 = at.number != 4294967295u;
-    if (is_4) {
-        node_7 = atlas_store_slots_read_node(slots, at);
-        at_9 = (const atlas_store_NodeKind *)&constant_2;
-        is_5 = atlas_store_slots_NodeKindPartialEq_eq(&node_7.kind, at_9);
-        if (!is_5) {
-            is_5 = *((bool *)marks.at + (uint64_t)at.number);
+SMALL atlas_search_Link atlas_store_slots_rehearsing_first_open(slice_Slot slots, slice_bool_2 marks, atlas_search_Link at) {
+    atlas_search_Link result;
+    atlas_search_Link link_4;
+    atlas_search_Link link_5;
+    atlas_store_Node node_6;
+    bool is_7;
+    link_4 = at;
+    for (;;) {
+        node_6 = atlas_store_slots_read_node(slots, link_4);
+        link_5 = node_6.previous;
+        is_7 = atlas_store_slots_rehearsing_is_open(slots, marks, link_5);
+        if (!is_7) {
+            return link_4;
         }
-        is_4 = is_5;
+        link_4 = link_5;
     }
-    return is_4;
+    return result;
+}
+
+/* The last of those that come without a gap after it, or this one.
+ * crates/atlas_store/src/slots/rehearsing.rt
+ */
+SMALL atlas_search_Link atlas_store_slots_rehearsing_last_open(slice_Slot slots, slice_bool_2 marks, atlas_search_Link at) {
+    atlas_search_Link result;
+    atlas_search_Link link_4;
+    atlas_search_Link link_5;
+    atlas_store_Node node_6;
+    bool is_7;
+    link_4 = at;
+    for (;;) {
+        node_6 = atlas_store_slots_read_node(slots, link_4);
+        link_5 = node_6.next;
+        is_7 = atlas_store_slots_rehearsing_is_open(slots, marks, link_5);
+        if (!is_7) {
+            return link_4;
+        }
+        link_4 = link_5;
+    }
+    return result;
+}
+
+/* Whether a run that begins and ends with these members is all that a container holds.
+ * crates/atlas_store/src/slots/rehearsing.rt
+ */
+SMALL bool atlas_store_slots_rehearsing_fills_container(const atlas_store_Node *low, const atlas_store_Node *high) {
+    bool is_3;
+    bool is_4;
+    is_4 = low->previous.number == 4294967295u;
+    if (is_4) {
+        is_4 = high->next.number == 4294967295u;
+    }
+    is_3 = is_4;
+    if (is_3) {
+        is_3 = low->parent.number != 4294967295u;
+    }
+    return is_3;
 }
 
 /* core/src/slice/sort/small.rt */
@@ -58024,6 +59315,11 @@ SMALL void core_mem_drop_Link_12(atlas_search_Link x) {
 }
 
 /* core/src/mem.rt */
+SMALL void core_mem_drop_Marks_7(const atlas_search_Marks x) {
+    atlas_sheet_Destruct_none_drop_Marks(x);
+}
+
+/* core/src/mem.rt */
 SMALL void core_mem_drop_tuple_u64_Size_2(tuple_u64_Size x) {
     std_alloc_Destruct_none_drop_tuple_u64_Size(x);
 }
@@ -58526,9 +59822,30 @@ SMALL void core_ptr_copy_drop_copy_nonoverlapping_CacheChange_u64(void *src, voi
     core_ptr_copy_drop_copy_bits_CacheChange_u64(src, dst, count);
 }
 
-/* std_alloc::Destruct++none::drop */
-SMALL void std_alloc_Destruct_none_drop_bool(bool given_1) {
-    (void)given_1;
+/* core/src/mem.rt */
+SMALL void core_mem_drop_bool_4(bool x) {
+    std_alloc_Destruct_none_drop_bool(x);
+}
+
+/* Whether there is a member at a slot that is free or shown as free.
+ * crates/atlas_store/src/slots/rehearsing.rt
+ */
+SMALL bool atlas_store_slots_rehearsing_is_open(slice_Slot slots, slice_bool_2 marks, atlas_search_Link at) {
+    bool is_4;
+    bool is_5;
+    atlas_store_Node node_7;
+    const atlas_store_NodeKind *at_9;
+    is_4 = at.number != 4294967295u;
+    if (is_4) {
+        node_7 = atlas_store_slots_read_node(slots, at);
+        at_9 = (const atlas_store_NodeKind *)&constant_2;
+        is_5 = atlas_store_slots_NodeKindPartialEq_eq(&node_7.kind, at_9);
+        if (!is_5) {
+            is_5 = *((bool *)marks.at + (uint64_t)at.number);
+        }
+        is_4 = is_5;
+    }
+    return is_4;
 }
 
 /* Moves row[i] down past the greater elements before it.
@@ -59100,6 +60417,11 @@ SMALL void atlas_sheet_Destruct_none_drop_FreeBox(guillotiere_FreeBox given_1) {
 
 /* atlas_sheet::Destruct++none::drop */
 SMALL void atlas_sheet_Destruct_none_drop_Link(atlas_search_Link given_1) {
+    (void)given_1;
+}
+
+/* atlas_sheet::Destruct++none::drop */
+SMALL void atlas_sheet_Destruct_none_drop_Marks(const atlas_search_Marks given_1) {
     (void)given_1;
 }
 
@@ -59750,6 +61072,11 @@ SMALL uint64_t core_hash_fold_read_u32(slice_u8 bytes, uint64_t at) {
     n_3 = core_int_u32_from_le_bytes(new_array_u8_4(*((uint8_t *)bytes.at + at), *((uint8_t *)bytes.at + (at + 1u)),
             *((uint8_t *)bytes.at + (at + 2u)), *((uint8_t *)bytes.at + (at + 3u))));
     return (uint64_t)n_3;
+}
+
+/* std_alloc::Destruct++none::drop */
+SMALL void std_alloc_Destruct_none_drop_bool(bool given_1) {
+    (void)given_1;
 }
 
 /* Returns how many of the first elements are in order.

@@ -137,7 +137,7 @@ enum {
  * was compiled: what a function takes or what its answers mean, a field of a struct, or a number. What is only added leaves it. So a
  * program runs with every library whose guillotiere_interface() is the GUILLOTIERE_INTERFACE that it was compiled with and whose
  * guillotiere_version() is at least its GUILLOTIERE_VERSION. The name of the shared library has this number. */
-#define GUILLOTIERE_INTERFACE 2
+#define GUILLOTIERE_INTERFACE 3
 
 /* The greatest limit on the slots of an atlas, and that of an atlas without a limit of its own. */
 #define GUILLOTIERE_MOST_SLOTS 16777216
@@ -316,12 +316,15 @@ typedef struct guillotiere_cache_change {
 } guillotiere_cache_change;
 
 /* How often guillotiere_cache_get found its key or guillotiere_cache_insert answered HELD (`hits`), how often
- * guillotiere_cache_get didn't find its key (`misses`), and how many keys an insertion, a trim or a repacking evicted. A
- * count that reaches 18446744073709551615 stays there. */
+ * guillotiere_cache_get didn't find its key (`misses`), and how many keys an insertion, a trim, the end of a batch or a
+ * repacking evicted (`evictions`). `forced` counts, of those that insertions evicted, the ones that fragmentation cost: before
+ * that insertion some page had as much free area as was asked for, with the padding, in parts that had no room. A count that
+ * reaches 18446744073709551615 stays there. */
 typedef struct guillotiere_counts {
     uint64_t hits;
     uint64_t misses;
     uint64_t evictions;
+    uint64_t forced;
 } guillotiere_counts;
 
 /* A function that takes, resizes and gives back blocks of memory, and is passed what guillotiere_set_memory was:
@@ -762,7 +765,7 @@ GUILLOTIERE_CHECKED
 uint32_t guillotiere_cache_page_size(const guillotiere_cache *cache, uint32_t page, guillotiere_size *size);
 
 /* The areas of a page, counted from 0: that of its keys, with their padding and what the alignment added, and that which is
- * free; together that of the page. Takes one pass over the slots of the page. A page with much that is free, from which keys
+ * free; together that of the page. Takes a step, however many keys there are. A page with much that is free, from which keys
  * are evicted all the same, is worth a repacking. DONE; NO_PAGE; EMPTY. */
 GUILLOTIERE_CHECKED
 uint32_t guillotiere_cache_areas(const guillotiere_cache *cache, uint32_t page, guillotiere_areas *areas);
@@ -781,7 +784,8 @@ uint32_t guillotiere_cache_options_of(const guillotiere_cache *cache, guillotier
 
 /* The counts since the cache was made. Where a frame asks by guillotiere_cache_get, and inserts what that doesn't find, the
  * hit rate is `hits` by `hits` and `misses` together; where it only inserts, no miss is counted, and it is `hits` by calls.
- * DONE; EMPTY. */
+ * Where `forced` grows, a guillotiere_cache_repack or a guillotiere_cache_compact helps; where `evictions` grows without
+ * it, the pages are too small for what is drawn. DONE; EMPTY. */
 uint32_t guillotiere_cache_statistics(const guillotiere_cache *cache, guillotiere_counts *counts);
 
 /* --- A sheet of sprites that are known beforehand -------------------------------------------------------------------- */

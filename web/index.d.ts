@@ -221,7 +221,8 @@ export function memory(): Memory;
 /** The greatest limit on the slots of an atlas, and that of an atlas without a limit of its own: 16777216. */
 export const MOST_SLOTS: 16777216;
 
-/** An atlas hands out boxes and takes them back: what is free joins at once. It takes 12.1 kB of memory from the start, empty or not. */
+/** An atlas hands out boxes and takes them back: what is free joins at once. A new one takes 0.2 kB of memory, one with a box 0.5, and 12 kB
+ * come with its ninth slot. */
 export class Atlas {
   /**
    * @param slotLimit how many slots may be used at once, from 1 to {@link MOST_SLOTS}. Each live and each free box takes one,
@@ -297,7 +298,7 @@ export class Atlas {
   [Symbol.dispose](): void;
 }
 
-/** A simple atlas hands out boxes and takes none back. It takes as much memory as an atlas. */
+/** A simple atlas hands out boxes and takes none back. It takes about as much memory as an atlas. */
 export class SimpleAtlas {
   /** Throws `BAD_CALL`, `MEMORY`. */
   constructor(width: number, height: number, options?: AtlasOptions);
@@ -442,12 +443,15 @@ export type CacheChange =
 /**
  * How often `get`, `touch` or `getInto` found a key, or `insert` or `insertAll` one that was held (`hits`); how often the first three didn't
  * (`misses`); and how many keys were evicted. Where what `get` doesn't find is inserted, the hit rate is `hits / (hits + misses)`; where
- * there are insertions alone, no miss is counted, and it is `hits` by calls.
+ * there are insertions alone, no miss is counted, and it is `hits` by calls. `forced` counts, of the keys that insertions evicted, those
+ * that fragmentation cost: before that insertion some page had as much free area as was asked for, with the padding, in parts that had no
+ * room. Where it grows, `repack` or `compact` helps; where `evictions` grows without it, the pages are too small for what is drawn.
  */
 export interface Statistics {
   hits: number;
   misses: number;
   evictions: number;
+  forced: number;
 }
 
 /** A cache of rectangles under keys, in the pages of a texture array. */

@@ -21,7 +21,7 @@ fn options_of(options: Options) -> AllocatorOptions {
     }
 }
 
-fn granted(id: u32, area: Rectangle) -> Granted {
+pub fn granted(id: u32, area: Rectangle) -> Granted {
     Granted { id, x: area.min.x, y: area.min.y, width: area.width(), height: area.height() }
 }
 

@@ -18,6 +18,7 @@ mod constants;
 mod genome;
 mod here;
 mod memory;
+mod paged;
 mod playing;
 mod sheets;
 mod sizes;
@@ -43,6 +44,8 @@ mod patched {
 use genome::Genome;
 use playing::Run;
 use std::io::BufRead;
+use wollemigo_core::atlas_pages::PagedAtlas;
+use wollemigo_core::guillotiere::AtlasAllocator;
 
 // What the crate's own root gives allocator.rs, and bench/driver.rs gives cache.rs.
 #[cfg(crates)]
@@ -81,13 +84,17 @@ fn play_theirs(genome: &Genome, run: &mut Run) {
         "cache" => caches::play::<their_pages::Pages>(genome, run),
         "constants" => constants::play::<theirs::Theirs>(run),
         "memory" => memory::play::<theirs::Theirs>(genome, run),
+        "hand" => paged::play::<paged::ByHand<allocator::AtlasAllocator>>(genome, run),
         _ => play_atlas::<theirs::Theirs>(genome, run),
     }
 }
 
 #[cfg(crates)]
 fn play_patched(genome: &Genome, run: &mut Run) {
-    play_atlas::<patched::theirs::Theirs>(genome, run);
+    match genome.kind.as_str() {
+        "hand" => paged::play::<paged::ByHand<patched::allocator::AtlasAllocator>>(genome, run),
+        _ => play_atlas::<patched::theirs::Theirs>(genome, run),
+    }
 }
 
 #[cfg(not(crates))]
@@ -117,6 +124,8 @@ fn play_here(genome: &Genome, run: &mut Run) {
         "calls" => calls::play(genome, run),
         "constants" => constants::play::<here::Here>(run),
         "memory" => memory::play::<here::Here>(genome, run),
+        "paged" => paged::play::<PagedAtlas>(genome, run),
+        "hand" => paged::play::<paged::ByHand<AtlasAllocator>>(genome, run),
         _ => play_atlas::<here::Here>(genome, run),
     }
 }

@@ -1,7 +1,8 @@
-//! The bytes that a library holds: `memory fill=SIZES boxes=N`. A part has the boxes, and bytes in place of steps.
+//! The bytes that a library holds: `memory fill=SIZES boxes=N`. A part has the boxes, and bytes in place of steps; `struct` and `simple`
+//! are those of an allocator itself, `simplenew` and `simpleone` what a simple one holds with nothing and with one box.
 //!
 //! The program that counts steps also counts what is asked of the allocator of memory; the other one doesn't.
-use crate::atlases::{Atlas, Form, Options};
+use crate::atlases::{Atlas, Form, Options, Simple};
 use crate::genome::Genome;
 use crate::playing::Run;
 use crate::sizes::Sizes;
@@ -68,14 +69,31 @@ fn forget_peak() -> u64 {
     held()
 }
 
+fn simple_bytes<F: Form>(size: (i32, i32), options: Options, one: (i32, i32, usize), run: &mut Run) {
+    let empty = held();
+    let mut simple = <F::Simple as Simple<F::Atlas>>::new(size, options);
+    let new = held() - empty;
+    simple.ask(one.0, one.1);
+    let with_one = held() - empty;
+    let sides = [std::mem::size_of::<F::Atlas>(), std::mem::size_of::<F::Simple>()];
+    run.parts.push(("struct".to_string(), 1, sides[0] as u64));
+    run.parts.push(("simple".to_string(), 1, sides[1] as u64));
+    run.parts.push(("simplenew".to_string(), 1, new));
+    run.parts.push(("simpleone".to_string(), 1, with_one));
+}
+
 pub fn play<F: Form>(genome: &Genome, run: &mut Run) {
     let boxes = genome.scaled("boxes", 1 << 16);
     let sizes = Sizes::read(genome.word("fill", "16x16"));
     let mut random = Random::new(genome.number("seed", 1));
     let options = Options { alignment: (1, 1), small: 32, large: 256 };
+    let size = genome.sides("size", "4096x4096");
+    if boxes == 1 {
+        simple_bytes::<F>(size, options, sizes.at(0, 1, &mut Random::new(1)), run);
+    }
     let empty = forget_peak();
-    let mut atlas = F::Atlas::new(genome.sides("size", "4096x4096"), options);
-    run.parts.push(("new".to_string(), 1, held() - empty));
+    let mut atlas = F::Atlas::new(size, options);
+    let new = held() - empty;
     let (mut granted, mut ids) = (0, 0);
     for place in 0..boxes {
         let (width, height, _) = sizes.at(place, boxes, &mut random);
@@ -85,12 +103,16 @@ pub fn play<F: Form>(genome: &Genome, run: &mut Run) {
         }));
     }
     std::hint::black_box(ids);
-    run.parts.push(("fill".to_string(), granted, held() - empty));
-    run.parts.push(("peak".to_string(), granted, peak_above(empty)));
+    let (filled, peak) = (held() - empty, peak_above(empty));
     let copy = atlas.copied();
-    run.parts.push(("clone".to_string(), granted, held() - empty));
+    let both = held() - empty;
     drop(copy);
     forget_peak();
     atlas.rearrange();
-    run.parts.push(("rearrange".to_string(), granted, peak_above(empty)));
+    let rearranged = peak_above(empty);
+    // What is told takes memory as well, so it comes last.
+    run.parts.push(("new".to_string(), 1, new));
+    for (part, bytes) in [("fill", filled), ("peak", peak), ("clone", both), ("rearrange", rearranged)] {
+        run.parts.push((part.to_string(), granted, bytes));
+    }
 }

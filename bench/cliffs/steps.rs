@@ -70,11 +70,17 @@ pub fn start_counting() {
     request(0x4354_0001);
 }
 
-/// Callgrind writes what it counted, and counts no longer.
+/// Callgrind writes what it counted, and counts no longer; it forgets the code that it had made ready.
 #[inline(never)]
 pub fn stop_counting() {
-    request(0x4354_0000);
+    stop_count();
     request(0x4354_0005);
+}
+
+/// Callgrind writes what it counted, and goes on.
+#[inline(never)]
+pub fn stop_count() {
+    request(0x4354_0000);
 }
 
 /// Where callgrind counts on other processors: it is told this name.

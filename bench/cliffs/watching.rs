@@ -4,7 +4,7 @@
 //! calls that were given memory are apart. `watch=N+N+..` has callgrind count the calls of these numbers, one by one.
 use crate::atlases::{Atlas, Form, Granted, Options, Simple};
 use crate::memory;
-use crate::steps::{start_counting, steps, stop_counting};
+use crate::steps::{start_counting, steps, stop_count, stop_counting};
 use std::cell::RefCell;
 use std::collections::BTreeMap;
 
@@ -39,6 +39,14 @@ pub fn begin(what: &str) {
 /// What is done from now on.
 pub fn enter(part: &str) {
     LOG.with(|log| log.borrow_mut().part = part.to_string());
+}
+
+/// One of many calls, each of which callgrind counts.
+pub fn counted_alone<T>(call: &mut dyn FnMut() -> T) -> T {
+    start_counting();
+    let answer = call();
+    stop_count();
+    answer
 }
 
 fn watched<T>(kind: &'static str, call: &mut dyn FnMut() -> T) -> T {

@@ -227,6 +227,38 @@ static void a_batch_ends(void) {
     guillotiere_cache_free(&cache);
 }
 
+/* On a page of 16 by 16 a key takes 8 by 8 with its border, so that 192 pixels are free. A second one has room only once it is gone: that
+ * eviction is forced if the second one takes 192 pixels or less. */
+static uint64_t forced_by(int32_t padding, int32_t width, int32_t height) {
+    guillotiere_cache cache = GUILLOTIERE_NONE;
+    const guillotiere_cache_options options = {{16, 16}, {16, 16}, 1, padding, GUILLOTIERE_DEFAULT_OPTIONS};
+    guillotiere_counts counts = {7, 7, 7, 7};
+    make(&options, &cache);
+    inserted(&cache, 1, 8 - 2 * padding, 8 - 2 * padding);
+    CHECK(guillotiere_cache_begin_frame(&cache) == GUILLOTIERE_DONE);
+    inserted(&cache, 2, width, height);
+    CHECK(guillotiere_cache_statistics(&cache, &counts) == GUILLOTIERE_DONE && counts.evictions == 1);
+    guillotiere_cache_free(&cache);
+    return counts.forced;
+}
+
+/* Two keys of 16 by 4 leave 16 by 8, as many pixels as 8 by 16 has: both are forced to go. What a trim evicts isn't forced. */
+static void evictions_are_forced(void) {
+    guillotiere_cache cache = GUILLOTIERE_NONE;
+    const guillotiere_cache_options options = {{16, 16}, {16, 16}, 1, 0, GUILLOTIERE_DEFAULT_OPTIONS};
+    guillotiere_counts counts;
+    CHECK(forced_by(0, 16, 12) == 1 && forced_by(0, 16, 13) == 0); /* 192 and 208 pixels */
+    CHECK(forced_by(1, 14, 10) == 1 && forced_by(1, 14, 11) == 0); /* the same with the border; 154 without */
+    make(&options, &cache);
+    for (uint64_t key = 1; key < 3; key++) inserted(&cache, key, 16, 4);
+    CHECK(guillotiere_cache_begin_frame(&cache) == GUILLOTIERE_DONE);
+    inserted(&cache, 3, 8, 16);
+    CHECK(guillotiere_cache_statistics(&cache, &counts) == GUILLOTIERE_DONE && counts.evictions == 2 && counts.forced == 2);
+    CHECK(guillotiere_cache_trim(&cache, 0) == GUILLOTIERE_DONE);
+    CHECK(guillotiere_cache_statistics(&cache, &counts) == GUILLOTIERE_DONE && counts.evictions == 3 && counts.forced == 2);
+    guillotiere_cache_free(&cache);
+}
+
 /* What lies on the last page moves to the page before it, 64 pixels in each call; then the page goes. */
 static void a_page_is_emptied(void) {
     guillotiere_cache cache = GUILLOTIERE_NONE;
@@ -288,7 +320,8 @@ static void a_life(void) {
     told_evicted(&cache, 8, &eight);
     CHECK(guillotiere_cache_get(&cache, 8, &place) == GUILLOTIERE_NOT_HELD);
     CHECK(guillotiere_cache_statistics(&cache, &counts) == GUILLOTIERE_DONE);
-    CHECK(counts.hits == 2 && counts.misses == 1 && counts.evictions == 1); /* 7 by an insertion and by a get */
+    CHECK(counts.hits == 2 && counts.misses == 1); /* 7 by an insertion and by a get */
+    CHECK(counts.evictions == 1 && counts.forced == 0); /* both pages were full */
 
     CHECK(guillotiere_cache_remove(&cache, 9, &place) == GUILLOTIERE_DONE && same_place(&place, &nine));
     CHECK(guillotiere_cache_remove(&cache, 9, &place) == GUILLOTIERE_NOT_HELD);
@@ -546,7 +579,7 @@ static void texts(void) {
 static void versions(void) {
     CHECK(guillotiere_version() == GUILLOTIERE_VERSION);
     CHECK(GUILLOTIERE_VERSION == 7000 && GUILLOTIERE_VERSION_MINOR == 7);
-    CHECK(guillotiere_interface() == GUILLOTIERE_INTERFACE && GUILLOTIERE_INTERFACE == 2);
+    CHECK(guillotiere_interface() == GUILLOTIERE_INTERFACE && GUILLOTIERE_INTERFACE == 3);
 }
 
 /* The default options: a page of 512, which grows to 2048, and a border of 1. */
@@ -572,6 +605,7 @@ int main(void) {
     empty_handles();
     a_blank_key();
     a_batch_ends();
+    evictions_are_forced();
     a_page_is_emptied();
     a_life();
     a_copy();

@@ -154,8 +154,8 @@ static bool ask(const char *word) {
     if (status != GUILLOTIERE_DONE)
         reply(status);
     else
-        printf("hits %llu misses %llu evictions %llu\n", (unsigned long long)counts.hits, (unsigned long long)counts.misses,
-               (unsigned long long)counts.evictions);
+        printf("hits %llu misses %llu evictions %llu forced %llu\n", (unsigned long long)counts.hits, (unsigned long long)counts.misses,
+               (unsigned long long)counts.evictions, (unsigned long long)counts.forced);
     return true;
 }
 

@@ -498,7 +498,7 @@ static void describe_cache(void) {
     size_t len = 7;
     uint32_t pages = 7, numbers = 7;
     guillotiere_size size = {7, 7};
-    guillotiere_counts counts = {7, 7, 7};
+    guillotiere_counts counts = {7, 7, 7, 7};
     if (++described % 16 == 0) go_on_as_a_copy();
     add(guillotiere_cache_len(&cache, &len));
     add_wide(len);
@@ -512,6 +512,7 @@ static void describe_cache(void) {
     add_wide(counts.hits);
     add_wide(counts.misses);
     add_wide(counts.evictions);
+    add_wide(counts.forced);
 }
 
 /* --- A sheet ---------------------------------------------------------------------------------------------------- */

@@ -401,7 +401,7 @@ static void no_other_page(void) {
     CHECK(guillotiere_cache_remove(&cache, 1, NULL) == GUILLOTIERE_DONE);
     CHECK(guillotiere_cache_insert(&cache, key, 1, 1, &place) == GUILLOTIERE_MEMORY);
     CHECK(guillotiere_cache_next_change(&cache, &change) == GUILLOTIERE_NO_CHANGE);
-    CHECK(guillotiere_cache_statistics(&cache, &counts) == GUILLOTIERE_DONE && counts.evictions == 0);
+    CHECK(guillotiere_cache_statistics(&cache, &counts) == GUILLOTIERE_DONE && counts.evictions == 0 && counts.forced == 0);
     is_shut = false;
     CHECK(guillotiere_cache_insert(&cache, key, 1, 1, &place) == GUILLOTIERE_DONE && place.page == 0);
     guillotiere_cache_free(&cache);

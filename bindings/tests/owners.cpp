@@ -219,6 +219,18 @@ static void blank_keys() {
     CHECK(made->insert(9, {5, 5}).error() == status::other_size && made->remove(9));
 }
 
+// On a page of 16 by 16 a key of 8 by 8 leaves 192 pixels. A second one has room only once it is gone: that is forced if it has as many.
+static std::uint64_t forced_by(size second) {
+    auto made = cache::make({{16, 16}, {16, 16}, 1, 0, default_options});
+    CHECK(made->insert(1, {8, 8})->answer == insertion::fresh && made->begin_frame() == status::done);
+    CHECK(made->insert(2, second)->answer == insertion::fresh && made->statistics().evictions == 1);
+    return made->statistics().forced;
+}
+
+static void forced_evictions() {
+    CHECK(forced_by({16, 12}) == 1 && forced_by({16, 13}) == 0);
+}
+
 static void caches() {
     cache_options with{{16, 16}, {16, 32}, 1, 0, default_options};
     auto made = cache::make(with);
@@ -239,6 +251,7 @@ static void caches() {
     CHECK(made->get(8) && !made->get(7) && made->peek(8)->page == 0 && made->len() == 1);
     CHECK(made->peek(8)->number == 0 && made->numbers() == 1);
     CHECK(made->statistics().hits == 2 && made->statistics().misses == 1 && made->statistics().evictions == 1);
+    CHECK(made->statistics().forced == 0); // the page was full
     CHECK(made->newest()->key == 8 && made->oldest()->at.number == 0 && !made->older(8) && made->reserve(10) == status::done);
     const cache &read = *made;
     CHECK(*read.unusable_area(0, {16, 33}) == 511 && read.unusable_area(1, {1, 1}).error() == status::no_page);
@@ -273,6 +286,7 @@ static void caches() {
 
 int main() {
     blank_keys();
+    forced_evictions();
     caches();
     sheets_of_sprites();
     sheets_without_whole_cuts();

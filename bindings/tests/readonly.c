@@ -284,7 +284,7 @@ static bool cache_options_of(const struct held *h) {
 
 static bool cache_statistics(const struct held *h) {
     guillotiere_counts counts;
-    return guillotiere_cache_statistics(&h->cache, &counts) == GUILLOTIERE_DONE && counts.evictions == 0;
+    return guillotiere_cache_statistics(&h->cache, &counts) == GUILLOTIERE_DONE && counts.evictions == 0 && counts.forced == 0;
 }
 
 #define CALL(name) {"guillotiere_" #name, name}

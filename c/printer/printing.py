@@ -5,7 +5,7 @@ import re
 
 import border
 from bodies import Body
-from merging import WORD, Calls, Piece, merged
+from merging import WORD, Calls, Loops, Piece, merged
 from mir import Unknown, only
 from shapes import Shapes, declaration, is_library, word
 
@@ -176,6 +176,11 @@ class Printer:
         lines = ['/* ' + line.replace('*/', '* /') for line in known.documentation + [known.place]]
         return lines[:1] + [' * ' + line[3:] for line in lines[1:]] + [' */'] if len(lines) > 1 else [lines[0] + ' */']
 
+    def is_cold(self, key):
+        """Whether its source says that it is seldom called."""
+        known = self.names.function(key.name)
+        return known is not None and known.is_cold
+
     def structs(self):
         """Each struct, and for a reader the name in the sources of those that aren't of a library."""
         pieces, told = [], {}
@@ -196,6 +201,7 @@ class Printer:
         makers = [Piece(name, 'maker', lines) for name, lines in self.makers.values()]
         functions = [Piece(self.name(key), key.name, [head + ' {'] + lines + ['}']) for key, head, lines in self.printed]
         notes = {self.name(key): self.documentation(key) for key, _, _ in self.printed}
+        cold = {self.name(key) for key, _, _ in self.printed if self.is_cold(key)}
         statics = ['static ' + text % ('constant_%d' % (index + 1)) for index, text in enumerate(self.statics)]
         groups, others = merged([structs, makers, functions], statics + ['//'] + self.sizes() + ['//'] + list(wrappers))
         statics, sizes, wrappers = parted(others)
@@ -204,7 +210,7 @@ class Printer:
         called = set(WORD.findall('\n'.join([line for piece in groups[2] for line in piece.lines] + wrappers)))
         made = [line for piece in groups[1] if piece.name in called for line in piece.lines]
         parts = [support('support.c'), ['', *typed(groups[0], told)], asserted(sizes), inner, made, statics, [''],
-                 written(groups[2], notes, wrappers), wrappers]
+                 written(groups[2], notes, cold, wrappers), wrappers]
         return '\n'.join(each for part in parts for line in part for each in folded(line)).rstrip('\n') + '\n'
 
 
@@ -241,13 +247,17 @@ def asserted(sizes):
     return ['#if UINTPTR_MAX > 0xffffffffu'] + tests + ['#endif', '']
 
 
-def written(functions, notes, wrappers):
-    """Declarations, and then the functions; some are put where they are called."""
-    inner = Calls(functions, wrappers, *SMALL).placed
-    lines = ['%s %s;' % ('SMALL' if piece.name in inner else 'PART', piece.lines[0][:-2]) for piece in functions] + ['']
+def written(functions, notes, cold, wrappers):
+    """Declarations, and then the functions; some are put where they are called, and some loops are printed twice."""
+    loops = Loops(functions)
     for piece in functions:
-        head = '%s %s' % ('SMALL' if piece.name in inner else 'PART', piece.lines[0])
-        lines += notes[piece.name] + [head] + piece.lines[1:] + ['']
+        piece.lines = loops.lines(piece)
+    inner = Calls(functions, wrappers, cold, *SMALL).placed
+    heads = {piece.name: '%s %s' % ('COLD' if piece.name in cold else 'SMALL' if piece.name in inner else 'PART', piece.lines[0])
+             for piece in functions}
+    lines = [heads[piece.name][:-2] + ';' for piece in functions] + ['']
+    for piece in functions:
+        lines += notes[piece.name] + [heads[piece.name]] + piece.lines[1:] + ['']
     return lines
 
 

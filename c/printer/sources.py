@@ -1,4 +1,4 @@
-"""Names and documentation from the sources, for readers of what is printed: no meaning hangs on them.
+"""Names and documentation from the sources, for readers of what is printed, and which functions are cold: no meaning hangs on them.
 
 What isn't found here is printed under a number, or without documentation.
 """
@@ -69,9 +69,11 @@ def owner(head):
 class Found:
     """A function in the sources."""
 
-    def __init__(self, place, line, documentation, parameters):
+    def __init__(self, place, line, lines, parameters):
+        """`lines` are those that end with the one above it."""
         self.place, self.line = place, line
-        self.documentation, self.parameters = documentation, parameters
+        self.documentation, self.is_cold = above(lines)
+        self.parameters = parameters
 
 
 class Names:
@@ -120,7 +122,7 @@ class Sources:
             name = '::'.join([module] + around[-1:] + [match[1]])
             given = [parameter(piece) for piece in pieces(within(plain, match.end() - 1)) if not piece.strip().startswith('ghost')]
             line = text.count('\n', 0, match.start())
-            self.functions.add(name, len(around[-1:]) + 1, Found(place, line + 1, above(text.split('\n')[:line]), given))
+            self.functions.add(name, len(around[-1:]) + 1, Found(place, line + 1, text.split('\n')[:line], given))
 
     def read_type(self, match, plain, name):
         if match[3] == ';':
@@ -144,10 +146,11 @@ class Sources:
 
 
 def above(lines):
-    """The comment that ends with the last of these lines, but for attributes."""
-    found = []
+    """The comment that ends with the last of these lines, but for attributes, and whether `#[cold]` is one of those."""
+    found, is_cold = [], False
     while lines and re.match(r'\s*(?://|#\[)', lines[-1]):
         line = lines.pop().strip()
+        is_cold = is_cold or line == '#[cold]'
         if line.startswith('//'):
             found.insert(0, line.lstrip('/').strip())
-    return found
+    return found, is_cold

@@ -25,20 +25,24 @@ static uint64_t nothing;
 #define IN_PLACE always_inline
 #endif
 
-/* MAKER: makes a value of its parts. SMALL: has few lines. PART: any other function, where GCC by measurement does better with a hint. */
+/* MAKER: makes a value of its parts. SMALL: has few lines. COLD: is seldom called, as its source says, and never put in place. PART: any
+ * other function, where GCC by measurement does better with a hint. */
 #if defined(__clang__)
 #define MAKER static inline __attribute__((IN_PLACE, unused))
 #define SMALL static inline __attribute__((IN_PLACE))
+#define COLD static __attribute__((noinline))
 #define PART static
 #define UNREACHABLE() __builtin_unreachable()
 #elif defined(__GNUC__)
 #define MAKER static inline __attribute__((IN_PLACE, unused))
 #define SMALL static inline __attribute__((IN_PLACE))
+#define COLD static __attribute__((noinline))
 #define PART static inline
 #define UNREACHABLE() __builtin_unreachable()
 #else
 #define MAKER static inline
 #define SMALL static inline
+#define COLD static
 #define PART static
 #define UNREACHABLE() abort()
 #endif

@@ -215,6 +215,9 @@ CALLS = [
     ('number', [U64, U64], 1, seq(call('t::length', [], 0, [{'Const': 7}]), 'Return'), [((0,), 7)]),
     ('of_itself', [U32, U32], 1, seq(call('t::down', [copy(1)], 0), 'Return'), [((5,), 15)]),
     ('of_each_other', [BOOL, U32], 1, seq(call('t::is_even', [copy(1)], 0), 'Return'), [((6,), 1), ((7,), 0)]),
+    ('test_in_a_loop', [U32, U32, U32, PAIR, ref(PAIR, 'Imm')], 2, seq(
+        put(3, {'Aggregate': [copy(1), num(U64, 2)]}), put(4, {'AddrOf': at(3)}), call('t::sum', [copy(4), copy(2)], 0), 'Return'),
+     [((0, 3), 300), ((5, 3), 18), ((5, 0), 0)]),
 ]
 
 # Structs of more than 64 bytes, which are filled where they stand.
@@ -268,6 +271,15 @@ HELPERS = [
         put(2, op2('Eq', copy(1), num(U32, 0))), when(copy(2), seq(put(0, opd(told)), 'Return')),
         put(3, op2(unsigned('Sub'), copy(1), num(U32, 1))), call('t::is_' + other, [copy(3)], 0), 'Return'))
       for one, other, told in (('even', 'odd', 'True'), ('odd', 'even', 'False'))),
+    function('t::is_zero', [BOOL, ref(U32, 'Imm')], 1, seq(put(0, op2('Eq', copy(1, deref(U32)), num(U32, 0))), 'Return')),
+    function('t::sum_with', [U32, ref(PAIR, 'Imm'), U32, ref(U32, 'Imm'), BOOL], 2, seq(
+        put(3, {'AddrOf': at(1, deref(PAIR), field(0))}), call('t::is_zero', [copy(3)], 4),
+        when(copy(4), seq(put(0, opd(num(U32, 100))), 'Return')),
+        put(0, op2(unsigned('Add'), copy(1, deref(PAIR), field(0)), copy(2))), 'Return')),
+    function('t::sum', [U32, ref(PAIR, 'Imm'), U32, U32, BOOL, U32], 2, seq(
+        put(0, opd(num(U32, 0))), put(3, opd(num(U32, 0))), block(loop(
+            put(4, op2(unsigned('Lt'), copy(3), copy(2))), when(copy(4), 'Skip', leave(1)),
+            call('t::sum_with', [copy(1), copy(3)], 5), adds(0, copy(5)), adds(3, num(U32, 1)))), 'Return')),
     function('t::length', [U64], 0, seq(put(0, opd({'NumOf': [64, param(0)]})), 'Return'), 1),
 ]
 

@@ -160,10 +160,10 @@ class Scroll {
 
   /** The counts, as they are told. */
   counts() {
-    const { hits, misses, evictions } = this.cache.statistics;
+    const { hits, misses, evictions, forced } = this.cache.statistics;
     const share = hits + misses ? `${(100 * hits / (hits + misses)).toFixed(1)} %` : '-';
     return {
-      hits: count(hits), misses: count(misses), 'hit rate': share, evicted: count(evictions),
+      hits: count(hits), misses: count(misses), 'hit rate': share, evicted: count(evictions), forced: count(forced),
       moved: count(this.moved), 'without room': count(this.unplaced), glyphs: count(this.cache.length),
       pages: count(this.cache.pageCount),
     };

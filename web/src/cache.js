@@ -51,8 +51,9 @@ function optionsRead(words, at) {
 }
 
 function statisticsRead(words, at) {
-  const { hits, misses, evictions } = countsAt;
-  return { hits: reading.wide(words, at + hits), misses: reading.wide(words, at + misses), evictions: reading.wide(words, at + evictions) };
+  const { hits, misses, evictions, forced } = countsAt;
+  return { hits: reading.wide(words, at + hits), misses: reading.wide(words, at + misses), evictions: reading.wide(words, at + evictions),
+    forced: reading.wide(words, at + forced) };
 }
 
 export class TextureCache extends Owner {

@@ -35,7 +35,7 @@ test('pages come, grow, and keys give way', () => {
   assert.equal(cache.numbers, 4);
   assert.deepEqual([...cache.changes()], [{ kind: 'evicted', key: 'b', from: second }]);
   assert.deepEqual([cache.has('b'), cache.length, cache.pageCount, cache.pageSize(1)], [false, 4, 2, { width: 16, height: 32 }]);
-  assert.deepEqual(cache.statistics, { hits: 2, misses: 0, evictions: 1 });
+  assert.deepEqual(cache.statistics, { hits: 2, misses: 0, evictions: 1, forced: 0 });
   refused(() => cache.pageSize(2), 'NO_PAGE', 'pageSize');
   refused(() => cache.repack(2), 'NO_PAGE', 'repack');
   const cases = [['a', 15, 16, 'OTHER_SIZE'], ['f', 17, 16, 'NEVER_FITS'], ['f', 16, 33, 'NEVER_FITS'], ['a', 16, -1, 'OTHER_SIZE']];
@@ -220,6 +220,30 @@ test('a repacking that keeps all keys', () => {
   assert.equal(cache.repackKeepingAll(0), true);
   const moved = [...cache.changes()].map(({ kind, key, to }) => [kind, key, to.rectangle.x, to.rectangle.y]);
   assert.deepEqual(moved, [['moved', 'c', 10, 0], ['moved', 'b', 0, 0]]);
+});
+
+// On a page of 16 by 16 a key takes 8 by 8 with its border, so that 192 pixels are free. A second one has room only once it is gone.
+test('evictions are forced where a page has the area, and no room', () => {
+  const counted = (padding, width, height) => {
+    const cache = new TextureCache({ page: SIDE, pages: 1, padding });
+    cache.insert('a', 8 - 2 * padding, 8 - 2 * padding);
+    cache.beginFrame();
+    assert.equal(cache.insert('b', width, height).isNew, true);
+    const { evictions, forced } = cache.statistics;
+    return [evictions, forced];
+  };
+  assert.deepEqual([counted(0, 16, 12), counted(0, 16, 13)], [[1, 1], [1, 0]]); // 192 and 208 pixels
+  assert.deepEqual([counted(1, 14, 10), counted(1, 14, 11)], [[1, 1], [1, 0]]); // the same with the border; 154 without
+});
+
+test('two forced evictions count as two, and what a trim evicts as none', () => {
+  const cache = new TextureCache({ page: SIDE, pages: 1 });
+  for (const key of ['a', 'b']) cache.insert(key, 16, 4);
+  cache.beginFrame();
+  cache.insert('c', 8, 16); // 128 pixels are free, below the two
+  cache.trim(0);
+  assert.deepEqual([...cache.changes()].filter(({ kind }) => kind === 'evicted').map(({ key }) => key), ['a', 'b', 'c']);
+  assert.deepEqual(cache.statistics, { hits: 0, misses: 0, evictions: 3, forced: 2 });
 });
 
 test('a caller who follows the changes knows the place of each key', () => {

@@ -61,9 +61,9 @@ function useCache(): void {
   for (const { key, place } of cache.clone()) [key, place.inner.x];
   [cache.reserve(5), cache.reserveSlots(20), cache.reserveChanges(cache.length + 5)];
   [cache.oldest()?.key, cache.areas(0).free, cache.unusableArea(0, 1, 1), cache.options.atlas.largeSizeThreshold, cache.options.padding];
-  const { hits, misses, evictions } = cache.statistics;
+  const { hits, misses, evictions, forced } = cache.statistics;
   cache.dispose();
-  hits + misses + evictions;
+  hits + misses + evictions + forced;
 }
 
 function useSheets(): number {

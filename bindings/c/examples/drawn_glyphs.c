@@ -86,7 +86,7 @@ static bool frame(guillotiere_cache *cache) {
 int main(void) {
     guillotiere_cache_options options = GUILLOTIERE_DEFAULT_CACHE_OPTIONS;
     guillotiere_cache cache = GUILLOTIERE_NONE;
-    guillotiere_counts counts = {0, 0, 0};
+    guillotiere_counts counts = {0, 0, 0, 0};
     options.page = options.largest_page = (guillotiere_size){SIDE, SIDE};
     options.pages = 2;
     bool is_good = guillotiere_cache_new(&options, &cache) == GUILLOTIERE_DONE;

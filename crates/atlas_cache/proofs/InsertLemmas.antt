@@ -10,15 +10,15 @@ use Rattle.atlas_cache.specs.declared.inserted.Inserted.{Inserted}
 use Rattle.atlas_cache.specs.declared.inserted.Inserted.TheVariants.{Placed, Held, FrameFull, NeverFits}
 use Rattle.atlas_cache.specs.declared.places.Place.{Place}
 use Rattle.atlas_cache.specs.Caches.{CacheState, FramesFall}
-use Rattle.atlas_cache.specs.Changes.{ClearsBox, Does, Inserts, InsertsBlank, Leads, MayVacate}
+use Rattle.atlas_cache.specs.Changes.{ClearsBox, Does, InsertsUncounted, InsertsBlank, Leads, MayVacate}
 use Rattle.guillotiere.specs.Boxes.{Box}
 use Rattle.atlas_cache.proofs.LoopLemmas.{does_options}
 
 module _ {K : Type 0} where
   module _ (asked : Size) (key : K) (size : Size) (result : Result Inserted CacheError) (before after : List (CacheChange K))
-      (s t : CacheState K) (ins : Inserts asked key size result before after s t) where
-    as_if : (r : Result Inserted CacheError) → result ≡ r → Inserts asked key size r before after s t
-    as_if r is = subst (λ (x : Result Inserted CacheError). Inserts asked key size x before after s t) is ins
+      (s t : CacheState K) (ins : InsertsUncounted asked key size result before after s t) where
+    as_if : (r : Result Inserted CacheError) → result ≡ r → InsertsUncounted asked key size r before after s t
+    as_if r is = subst (λ (x : Result Inserted CacheError). InsertsUncounted asked key size x before after s t) is ins
 
     pub not_held : (place : Place) → result ≡ Ok (Held place) → ⊥
     not_held place is = (as_if (Ok (Held place)) is).ends
@@ -68,7 +68,7 @@ module _ {K : Type 0} where
       (left.0 ∙ led.0, left.1 ∙ led.1)
 
   pub inserts_stay : (asked : Size) (key : K) (size : Size) (result : Result Inserted CacheError)
-      (before after : List (CacheChange K)) (s t : CacheState K) → Inserts asked key size result before after s t
+      (before after : List (CacheChange K)) (s t : CacheState K) → InsertsUncounted asked key size result before after s t
       → (t.options ≡ s.options) × (t.frame ≡ s.frame)
   inserts_stay asked key size (Ok (Placed place)) before after s t ins =
       let led = all_stay asked ins.made ins.more s ins.so_far ins.done ins.leads ins.vacates in
@@ -116,7 +116,7 @@ module _ {K : Type 0} where
 
   -- An insert takes at most one of the entries in reserve.
   pub inserts_take : (asked : Size) (key : K) (size : Size) (result : Result Inserted CacheError)
-      (before after : List (CacheChange K)) (s t : CacheState K) → Inserts asked key size result before after s t
+      (before after : List (CacheChange K)) (s t : CacheState K) → InsertsUncounted asked key size result before after s t
       → s.reserved ≤ t.reserved + 1
   inserts_take asked key size (Ok (Placed place)) before after s t ins =
       omega (arith, all_reserved asked ins.made ins.more s ins.so_far ins.done ins.leads ins.vacates, ins.ends.reserved)

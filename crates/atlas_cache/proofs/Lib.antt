@@ -6,6 +6,7 @@ pub mod CompactLemmas
 pub mod CompactWalks
 pub mod CompactedLemmas
 pub mod PassLemmas
+pub mod ForcedLemmas
 pub mod GatherLemmas
 pub mod IdOrderLemmas
 pub mod IterLemmas

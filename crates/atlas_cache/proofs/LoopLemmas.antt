@@ -9,7 +9,7 @@ use Rattle.atlas_entries.specs.declared.error.CacheError.{CacheError}
 use Rattle.atlas_cache.specs.declared.inserted.Inserted.{Inserted}
 use Rattle.atlas_cache.specs.Caches.{CacheState, entry_for, HasNoPageFor}
 use Rattle.atlas_entries.proofs.AppendedLists.{append-none}
-use Rattle.atlas_cache.specs.Changes.{Does, DoesOne, Ends, Inserts, InsertsThere, Leads, MayVacate}
+use Rattle.atlas_cache.specs.Changes.{Does, DoesOne, Ends, InsertsUncounted, InsertsThere, Leads, MayVacate}
 
 module _ {K : Type 0} where
   -- What an insert did so far.
@@ -77,7 +77,7 @@ module _ {K : Type 0} where
 
   pub inserted : (asked : Size) (key : K) (size : Size) (result : Result Inserted CacheError)
       (before after : List (CacheChange K)) (s t u : CacheState K) → Reached asked before after s t → Ends asked key size result t u
-      → Inserts asked key size result before after s u
+      → InsertsUncounted asked key size result before after s u
   inserted asked key size result before after s t u was ends = record {
     made = was.made;
     more = [];
@@ -93,7 +93,7 @@ module _ {K : Type 0} where
   pub inserted_there : (asked : Size) (key : K) (size : Size) (result : Result Inserted CacheError)
       (before now after more : List (CacheChange K)) (s t u v : CacheState K) → Reached asked before now s t
       → after ≡ now ++ more → MayVacate asked more t u → Ends asked key size result u v
-      → Inserts asked key size result before after s v
+      → InsertsUncounted asked key size result before after s v
   inserted_there asked key size result before now after more s t u v was listed vacates ends = record {
     made = was.made;
     more = more;
@@ -108,6 +108,6 @@ module _ {K : Type 0} where
   pub then_there : (asked : Size) (key : K) (size : Size) (result : Result Inserted CacheError)
       (before now after : List (CacheChange K)) (s t v : CacheState K) → Reached asked before now s t
       → InsertsThere asked key size result now after t v
-      → Inserts asked key size result before after s v
+      → InsertsUncounted asked key size result before after s v
   then_there asked key size result before now after s t v was there =
       inserted_there asked key size result before now after there.more s t there.done v was there.listed there.vacates there.ends

@@ -14,7 +14,7 @@ use Rattle.atlas_cache.specs.declared.inserted.Inserted.{Inserted}
 use Rattle.atlas_cache.specs.declared.inserted.Inserted.TheVariants.{Placed, Held, FrameFull, NeverFits}
 use Rattle.atlas_cache.specs.declared.places.Place.{Place}
 use Rattle.atlas_cache.specs.Caches.{CacheState, entry_for, place_for, shown, HaveOwnKeys}
-use Rattle.atlas_cache.specs.Changes.{Picture, all_changed, changed, picture_of, placed, Adds, ClearsBox, Does, Evicts, Inserts}
+use Rattle.atlas_cache.specs.Changes.{Picture, all_changed, changed, picture_of, placed, Adds, ClearsBox, Does, Evicts, InsertsUncounted}
 use Rattle.atlas_cache.specs.Changes.{InsertsBlank, Leads, LooksSame, MayVacate, Removes, ShowsSame, Uses}
 use Rattle.atlas_cache.specs.Telling.{Tells}
 use Rattle.atlas_cache.specs.Rooms.{page_sizes}
@@ -158,7 +158,7 @@ module _ {K : Type 0} (eq : K → K → Bool) where
     -- A new key.
     pub inserts_tell : (asked : Size) (key : K) (size : Size) (result : Result Inserted CacheError)
         (before after : List (CacheChange K)) (s t : CacheState K) → HaveOwnKeys eq s.entries
-        → Inserts asked key size result before after s t → Tells eq key result before after s t
+        → InsertsUncounted asked key size result before after s t → Tells eq key result before after s t
     inserts_tell asked key size (Ok (Placed place)) before after s t own ins =
         let so_far = all_told laws asked ins.made ins.more s ins.so_far ins.done own ins.leads ins.vacates in
         let noted = same_after (Moved key place place) _ _ so_far in

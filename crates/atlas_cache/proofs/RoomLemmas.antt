@@ -2,11 +2,12 @@
 pub mod AreaOrder
 pub mod GrantedRoom
 pub mod KeptPages
+pub mod KnownPages
+pub mod LiveAreas
 pub mod PageGrowth
 pub mod PageReserves
 pub mod PageRoom
 pub mod ReadySlots
-pub mod RefusedSizes
 pub mod RepackedPages
 pub mod ShownPages
 pub mod StoredPages

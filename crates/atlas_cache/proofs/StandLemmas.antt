@@ -1,5 +1,5 @@
 -- A frame that has used nothing has room for whatever can stand on a page, and one that has used all has none.
-use Rattle.std.proofs.Common.{ℕ, ◌<◌, ◌≤◌, ◌≡◌, ◌&&◌, ◌||◌, ◌==◌, true, false, Bool, eqb, ltb, not, filter, find, option_map}
+use Rattle.std.proofs.Common.{ℕ, ◌<◌, ◌≤◌, ◌≡◌, ◌&&◌, ◌==◌, true, false, Bool, eqb, ltb, not, filter, find, option_map}
 use Rattle.std.proofs.Common.{List, [], ◌∷◌, length, slice_get}
 use Rattle.std.proofs.Common.{Some, refl, sym, ap, subst, ◌∙◌, arith, inl, inr, eq-eqb}
 use Rattle.std.proofs.Math.Bool.{and-false, or-true}

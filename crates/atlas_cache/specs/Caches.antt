@@ -165,5 +165,5 @@ module _ {K : Type 0} where
         numbers = 0;
         reserved = 0;
         frame = 0;
-        counts = record { hits = 0; misses = 0; evictions = 0 };
+        counts = record { hits = 0; misses = 0; evictions = 0; forced = 0 };
       }

@@ -1,7 +1,7 @@
 -- What a cache does, change by change, and what a caller learns of it.
-use Rattle.std.specs.Prelude.{◌≡◌, ◌≢◌, ◌+◌, ◌-◌, ◌<◌, ◌≤◌, max, ℕ, Bool, true, false, List, [], ◌∷◌, ◌++◌, length, Option, Some, None}
+use Rattle.std.specs.Prelude.{◌≡◌, ◌≢◌, ◌+◌, ◌-◌, ◌<◌, ◌≤◌, max, min, ℕ, Bool, true, false, List, [], ◌∷◌, ◌++◌, length, Option, Some, None}
 use Rattle.std.specs.Prelude.{if◌then◌else◌, slice_get, slice_set, take, Result, Ok, Err, ◌⊎◌}
-use Rattle.std.specs.List.{AllByRecursion}
+use Rattle.std.specs.List.{list_any, AllByRecursion}
 use Rattle.guillotiere.specs.declared.Size.{Size}
 use Rattle.guillotiere.specs.Boxes.{Box, IsPositive}
 use Rattle.guillotiere.specs.Pixels.{sides_of}
@@ -24,7 +24,7 @@ use Rattle.atlas_entries.specs.Entries.{is_blank, lying, without_number, Table}
 use Rattle.atlas_cache.specs.Placing.{FreesOn, GrantsOn, GrowsOn, StartsOn}
 use Rattle.atlas_entries.specs.Limits.{IsWithoutNumber}
 use Rattle.atlas_cache.specs.Reserving.{UseAtMost}
-use Rattle.atlas_cache.specs.Rooms.{page_sizes, AreAllLargest, IsAtLeast, IsFirstToGrow, IsRounded, RoomsState}
+use Rattle.atlas_cache.specs.Rooms.{has_area, page_sizes, AreAllLargest, IsAtLeast, IsFirstToGrow, IsRounded, RoomsState}
 use Rattle.atlas_cache.specs.Vacating.{idle_on, ids_on, ids_inside, lies_in, without_inside, HasNoRoomWithout, IsRoomWithout}
 
 -- A caller's picture of a cache: the place of each key, and the size of each page.
@@ -285,9 +285,9 @@ module _ {K : Type 0} where
   Ends asked key size (Ok NeverFits) s t = ⊥
   Ends asked key size (Err error) s t = LooksSame s t
 
-  -- What an insert of a new key did: it made changes in the order of use, perhaps some in one box, listed in their order, and then it
-  -- ended so.
-  pub record Inserts (asked : Size) (key : K) (size : Size) (result : Result Inserted CacheError)
+  -- What an insert of a new key did, but for the count of forced evictions: it made changes in the order of use, perhaps some in one box,
+  -- listed in their order, and then it ended so.
+  pub record InsertsUncounted (asked : Size) (key : K) (size : Size) (result : Result Inserted CacheError)
       (before after : List (CacheChange K)) (s t : CacheState K) : Type 0 where
     pub made : List (CacheChange K)
     pub more : List (CacheChange K)
@@ -297,6 +297,23 @@ module _ {K : Type 0} where
     pub done : CacheState K
     pub vacates : MayVacate asked more so_far done
     pub ends : Ends asked key size result done t
+
+  -- The count of forced evictions after an insertion: all that it evicted, if before it some page had the area that was asked for.
+  abbrev pub forced_after : (asked : Size) → (s t : CacheState K) → ℕ
+  forced_after asked s t =
+      if list_any (has_area asked) s.pages
+      then min (s.counts.forced + (t.counts.evictions - s.counts.evictions)) 18446744073709551615
+      else s.counts.forced
+
+  -- Another state, with the count of forced evictions of this one.
+  abbrev pub but_forced : (s t : CacheState K) → CacheState K
+  but_forced s t = record t { counts = record t.counts { forced = s.counts.forced } }
+
+  -- The same, with that count.
+  pub record Inserts (asked : Size) (key : K) (size : Size) (result : Result Inserted CacheError)
+      (before after : List (CacheChange K)) (s t : CacheState K) : Type 0 where
+    pub does : InsertsUncounted asked key size result before after s (but_forced s t)
+    pub forced : t.counts.forced ≡ forced_after asked s t
 
   -- How it ended, where entries of one box went last, or nothing more could be done.
   pub record InsertsThere (asked : Size) (key : K) (size : Size) (result : Result Inserted CacheError)

@@ -1,7 +1,7 @@
 -- What a repacking does to a page, and the areas of pages.
 use Rattle.std.specs.Prelude.{◌≡◌, ◌≢◌, ◌==◌, ◌<◌, ◌≤◌, ◌++◌, [], ℕ, All, IsPermutation, List, length, map, filter, Option, Some, find}
 use Rattle.std.specs.Prelude.{option_map}
-use Rattle.std.specs.Prelude.{count_by, slice_get, slice_set, sum_by}
+use Rattle.std.specs.Prelude.{count_by, slice_get, slice_set}
 use Rattle.std.specs.List.{AllAdjacentBelow}
 use Rattle.guillotiere.specs.declared.Allocation.{Allocation}
 use Rattle.guillotiere.specs.declared.Change.{Change}
@@ -14,9 +14,10 @@ use Rattle.guillotiere.specs.Rearranging.{transfer_of, IsExactChange, KeepsSides
 use Rattle.guillotiere.specs.Replies.{grant_of}
 use Rattle.guillotiere.specs.Changes.{fresh}
 use Rattle.guillotiere.specs.Refits.{Refits}
-use Rattle.guillotiere.specs.States.{after_refit, free_in, live_in}
+use Rattle.guillotiere.specs.States.{after_refit}
 use Rattle.guillotiere.specs.Stored.{AtlasValue, state_of}
 use Rattle.guillotiere.specs.Trees.{Tree}
+use Rattle.atlas_cache.specs.Rooms.{live_area, open_area}
 
 -- The rectangle of an id among allocations.
 abbrev pub rectangle_among : List Allocation → ℕ → Option Rectangle
@@ -92,8 +93,8 @@ pub record LosesSome (pages : List AtlasValue) (page : ℕ) (held : List Allocat
 
 -- The area of what is live on each page, in unit squares.
 abbrev pub live_by_page : List AtlasValue → List ℕ
-live_by_page pages = map (λ s. sum_by (λ g. area g.box) (live_in (state_of s))) pages
+live_by_page pages = map live_area pages
 
 -- The area of what is free on each page.
 abbrev pub free_by_page : List AtlasValue → List ℕ
-free_by_page pages = map (λ s. sum_by area (free_in (state_of s))) pages
+free_by_page pages = map open_area pages

@@ -3,16 +3,16 @@ use Rattle.std.specs.Prelude.{◌≡◌, ◌≢◌, ◌⊎◌, ◌<◌, ◌≤�
 use Rattle.std.specs.Prelude.{if◌then◌else◌, List, length, map, sum_by, Some, None, slice_get}
 use Rattle.guillotiere.specs.declared.Rectangle.{Rectangle}
 use Rattle.guillotiere.specs.declared.Size.{Size}
-use Rattle.guillotiere.specs.Boxes.{box_sides, Fits, Sides}
+use Rattle.guillotiere.specs.Boxes.{area, box_sides, Fits, Sides}
 use Rattle.guillotiere.specs.Choice.{rounded}
 use Rattle.guillotiere.specs.Pages.{rectangle_on, HasRoomFor, NoneHasRoomBelow}
 use Rattle.guillotiere.specs.Pixels.{box_of, natural, options_of, sides_of, size_of}
 use Rattle.guillotiere.specs.Replies.{IsExact}
-use Rattle.guillotiere.specs.States.{IsSound}
+use Rattle.guillotiere.specs.States.{free_in, live_in, IsSound}
 use Rattle.guillotiere.specs.Stored.{AtlasValue, Stored, state_of}
 use Rattle.atlas_entries.specs.declared.error.CacheError.{CacheError}
 use Rattle.atlas_entries.specs.declared.error.CacheError.TheVariants.{Memory, Slots}
-use Rattle.atlas_cache.specs.declared.rooms.asking.Refusals.{Refusals}
+use Rattle.atlas_cache.specs.declared.rooms.asking.Known.{Known}
 use Rattle.atlas_cache.specs.declared.options.CacheOptions.{CacheOptions}
 use Rattle.atlas_cache.specs.Asking.{AreUsable, bordered, CanStand}
 
@@ -55,16 +55,28 @@ pub record KeepsRooms (r : RoomsState) : Type 0 where
   pub few : length r.pages ≤ r.options.pages
   pub each : ArePagesOf r.options r.pages
 
--- A page has room for neither of two sizes.
-pub record IsRefused (r : Refusals) (s : AtlasValue) : Type 0 where
-  pub first : HasRoomFor r.first s → ⊥
-  pub second : HasRoomFor r.second s → ⊥
+-- The area of what is live on a page, in unit squares.
+abbrev pub live_area : AtlasValue → ℕ
+live_area s = sum_by (λ g. area g.box) (live_in (state_of s))
 
--- No page has room for the sizes that stand at its number.
-pub record AreRefused (pages : List AtlasValue) (refused : List Refusals) : Type 0 where
-  pub as_many : length refused ≡ length pages
-  pub none : (k : ℕ) (s : AtlasValue) (r : Refusals) → slice_get pages k ≡ Some s → slice_get refused k ≡ Some r
-      → IsRefused r s
+-- The area of what is free on a page.
+abbrev pub open_area : AtlasValue → ℕ
+open_area s = sum_by area (free_in (state_of s))
+
+-- What is kept of a page: two sizes that it has no room for, and the area of what is live on it.
+pub record IsKnown (k : Known) (s : AtlasValue) : Type 0 where
+  pub first : HasRoomFor k.first s → ⊥
+  pub second : HasRoomFor k.second s → ⊥
+  pub live : k.live ≡ live_area s
+
+-- What is kept stands at the number of its page.
+pub record AreKnown (pages : List AtlasValue) (known : List Known) : Type 0 where
+  pub as_many : length known ≡ length pages
+  pub each : (n : ℕ) (s : AtlasValue) (k : Known) → slice_get pages n ≡ Some s → slice_get known n ≡ Some k → IsKnown k s
+
+-- What is free on a page has as many unit squares as this size, in however many parts.
+abbrev pub has_area : Size → AtlasValue → Bool
+has_area asked s = nat_le (natural asked.width * natural asked.height) (open_area s)
 
 -- Memory was refused, or the slots of a page don't suffice.
 abbrev pub IsRefusal : CacheError → Type 0

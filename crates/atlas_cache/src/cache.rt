@@ -1,6 +1,7 @@
 //! The cache.
-ghost use Rattle.std.specs.Prelude.{◌≡◌, ◌≢◌, ◌↔◌, ◌⊎◌, ◌+◌, ◌*◌, ◌<◌, ◌≤◌, ℕ, [], false, length, slice_get, IfErr, IfOk, IfSome, IsOk};
+ghost use Rattle.std.specs.Prelude.{◌≡◌, ◌≢◌, ◌↔◌, ◌+◌, ◌*◌, ◌<◌, ◌≤◌, ℕ, [], true, length, slice_get, IfErr, IfOk, IfSome, IsOk};
 ghost use Rattle.std.specs.Prelude.{IsSome, IsTrue};
+ghost use Rattle.std.specs.List.{list_any};
 ghost use Rattle.std.specs.Prelude.{Err, None, Ok, OnErr, Some, vec_capacity, vec_len};
 ghost use Rattle.guillotiere.specs.Boxes.{IsPositive};
 ghost use Rattle.guillotiere.specs.Pages.{KeepsPages};
@@ -12,7 +13,7 @@ ghost use Rattle.atlas_cache.specs.Placing.{IsFirstShort, IsGrowthShort, LacksSl
 ghost use Rattle.atlas_cache.specs.Refusals.{IsRefusedNew};
 ghost use Rattle.atlas_cache.specs.Reserving.{room_in, AllowSlots, HasReserves, HaveSlots, IsReadyFor, IsShortOfSlots, KeepsPageSizes};
 ghost use Rattle.atlas_cache.specs.Reserving.{KeepsReady, KeepsReadyButOne, UseAtMost};
-ghost use Rattle.atlas_cache.specs.Rooms.{page_sizes, HasRoomOnlyAmong, IsRefusal};
+ghost use Rattle.atlas_cache.specs.Rooms.{has_area, page_sizes, HasRoomOnlyAmong, IsRefusal};
 ghost use Rattle.atlas_entries.specs.declared.error.CacheError.TheVariants.{Memory, Slots};
 ghost use Rattle.atlas_cache.specs.declared.inserted.Inserted.TheVariants.{FrameFull, Held, NeverFits, Placed};
 
@@ -22,6 +23,7 @@ mod compacting;
 mod copying;
 mod figures;
 pub mod holding;
+mod inserting;
 mod iter;
 mod repacking;
 mod shrinking;
@@ -29,7 +31,6 @@ mod vacating;
 mod walking;
 
 use crate::cache::holding::{grant, join_blank, look_up, oldest_lying, place_of, take_out};
-use crate::cache::vacating::Vacated;
 use crate::changes::{CacheChange, Changes};
 use crate::counts::{Counts, NO_COUNTS, count};
 use crate::error::OptionsError;
@@ -44,9 +45,6 @@ pub use iter::Iter;
 use std::alloc::{Allocator, Global};
 use std::hash::{BuildHasher, BuildHasherDefault, Hash};
 use std::marker::Model;
-
-// So many entries go in the order of use, where that alone makes no room, before those of one box do.
-const OLDEST_FIRST: u32 = 16;
 
 /// Rectangles under keys in the pages of a texture array. Contracts see a `CacheState`: how the cache was made, the
 /// atlas of each page, the entries (the most recently used first), how many numbers they have had, for how many more there
@@ -128,7 +126,7 @@ impl<K: Copy + Eq + Hash, S: BuildHasher, A: Allocator + Copy> TextureCache<K, S
     ghost use Rattle.atlas_cache.specs.Caches.{entry_for, place_for, steps_left, AreAllInUse, EntriesLieApart};
     ghost use Rattle.atlas_cache.specs.Caches.{EntriesLieWithin, HasNoPageFor, HaveNumbersBelow, HaveOwnKeys};
     ghost use Rattle.atlas_cache.specs.Caches.{HaveOwnNumbers, IsFull, IsKept, IsNoneInUse};
-    ghost use Rattle.atlas_cache.specs.Changes.{picture_of, placed, Adds, DoesOne, FindsKnown, Inserts, InsertsBlank, InsertsThere};
+    ghost use Rattle.atlas_cache.specs.Changes.{picture_of, placed, Adds, DoesOne, FindsKnown, Inserts, InsertsBlank};
     ghost use Rattle.atlas_cache.specs.Changes.{IsExhausted, IsNewAndEmpty, IsNewAndTooLarge, LooksSame, Removes};
     ghost use Rattle.atlas_cache.specs.Changes.{ShowsSame, Uses};
     ghost use Rattle.atlas_cache.specs.Telling.{Tells};
@@ -240,6 +238,8 @@ impl<K: Copy + Eq + Hash, S: BuildHasher, A: Allocator + Copy> TextureCache<K, S
     /// don't suffice (no later frame helps then, but `remove`, `trim` and `clear` do), or `Numbers` only where 4,294,967,295 entries are
     /// still held.
     ///
+    /// What an insertion evicted counts as forced, by fragmentation, where some page had as much free area before it as was asked for.
+    ///
     /// A new key with an empty size, of which a side is 0 or below, becomes a blank entry: `Placed` with a place that is
     /// empty. It takes no room, so no page changes and nothing is evicted for it, nor is it ever evicted for another key.
     /// While entries are in reserve, it is never refused with `Memory`.
@@ -276,6 +276,8 @@ impl<K: Copy + Eq + Hash, S: BuildHasher, A: Allocator + Copy> TextureCache<K, S
         ensures new { entry_for K.eq key self.old.entries ≡ None → CanStand self.old.options size
             → Inserts (size_of (bordered self.old.options size)) key size result changes.old.items changes.new.items
             self.old self.new }
+        ensures forced { self.old.counts.forced < self.new.counts.forced
+            → list_any (has_area (size_of (bordered self.old.options size))) self.old.pages ≡ true }
         ensures told { Tells K.eq key result changes.old.items changes.new.items self.old self.new }
         ensures errors { entry_for K.eq key self.old.entries ≡ None
             → IfErr result (IsRefusedNew (length self.new.entries)) }
@@ -348,105 +350,6 @@ impl<K: Copy + Eq + Hash, S: BuildHasher, A: Allocator + Copy> TextureCache<K, S
     {
         let entry = join_blank(&mut self.entries, key, size, self.frame)?;
         Ok(Inserted::Placed(place_of(entry, &self.rooms.options())))
-    }
-
-    // Inserts a key that isn't held, of a size that can stand on a page.
-    fn insert_new(
-        &mut self,
-        key: K,
-        size: Size,
-        asked: Size,
-        changes: &mut Changes<K, A>,
-    ) -> Result<Inserted, CacheError>
-        requires absent { entry_for K.eq key self.old.entries ≡ None }
-        requires stands { CanStand self.old.options size }
-        requires asked { asked ≡ size_of (bordered self.old.options size) }
-        ensures inserts { Inserts asked key size result changes.old.items changes.new.items self.old self.new }
-        ensures errors { IfErr result (IsRefusedNew (length self.new.entries)) }
-        ensures short { result ≡ Err Slots → IsShortOfSlots self.new.pages }
-        ensures lacks { result ≡ Err Slots → LacksSlots asked self.new.options self.new.pages }
-        ensures capacity { vec_capacity changes.old ≤ vec_capacity changes.new }
-        ensures room { IsNoneInUse self.old → result ≢ Ok FrameFull }
-        ensures reserves { (n : ℕ) → HasReserves (n + 1) (room_in changes.old) self.old
-            → (HasNoPageFor asked self.old → IsFull self.old)
-            → (result ≢ Err Memory) × HasReserves n (room_in changes.new) self.new }
-        ensures full { IsFull self.old → IsFull self.new }
-        ensures slots { (HasNoPageFor asked self.old → IsFull self.old) → UseAtMost 4 self.old.pages self.new.pages }
-        ensures already { (HasNoPageFor asked self.old → IsFull self.old) → result ≡ Err Slots
-            → IsShortOfSlots self.old.pages }
-    {
-        let mut from = 0;
-        let mut to = self.rooms.len() as usize;
-        let mut left = OLDEST_FIRST;
-        loop {
-            if let Some(place) = self.add(key, size, asked, from, to)? {
-                return Ok(Inserted::Placed(place));
-            }
-            if let Some(answer) = self.insert_cleared(key, size, asked, left, changes)? {
-                return Ok(answer);
-            }
-            left = left.saturating_sub(1);
-            let Some(page) = self.make_room(asked, changes)? else {
-                self.rooms.prove_pages();
-                return Ok(Inserted::FrameFull);
-            };
-            // The others have no room still.
-            from = page as usize;
-            to = from + 1;
-        }
-    }
-
-    // Inserts a key that has room on no page, by the eviction of what lies in one box; None where more may go in the order of use, where
-    // a page may still grow or be added, or where memory for the marks of a rehearsal is refused, and then nothing changes.
-    fn insert_cleared(
-        &mut self,
-        key: K,
-        size: Size,
-        asked: Size,
-        left: u32,
-        changes: &mut Changes<K, A>,
-    ) -> Result<Option<Inserted>, CacheError>
-        requires absent { entry_for K.eq key self.old.entries ≡ None }
-        requires stands { CanStand self.old.options size }
-        requires asked { asked ≡ size_of (bordered self.old.options size) }
-        requires none { HasNoPageFor asked self.old }
-        ensures inserts { IfOk result (λ answer. IfSome answer (λ inserted.
-            InsertsThere asked key size (Ok inserted) changes.old.items changes.new.items self.old self.new)) }
-        ensures refused { IfErr result (λ error.
-            InsertsThere asked key size (Err error) changes.old.items changes.new.items self.old self.new) }
-        ensures stays { result ≡ Ok None → (self.new ≡ self.old) × (changes.new.items ≡ changes.old.items) }
-        ensures errors { IfErr result (IsRefusedNew (length self.new.entries)) }
-        ensures short { result ≡ Err Slots → IsShortOfSlots self.new.pages }
-        ensures lacks { result ≡ Err Slots → IsFirstShort asked self.new.pages }
-        ensures capacity { vec_capacity changes.old ≤ vec_capacity changes.new }
-        ensures already { result ≡ Err Slots → IsShortOfSlots self.old.pages }
-        ensures reserves { (n : ℕ) → HasReserves (n + 1) (room_in changes.old) self.old
-            → (result ≢ Err Memory) × HasReserves n (room_in changes.new) self.new }
-        ensures room { IsNoneInUse self.old → result ≢ Ok (Some FrameFull) }
-        ensures ready { result ≡ Ok None → (n : ℕ) → HasReserves n (room_in changes.old) self.old
-            → HasReserves n (room_in changes.new) self.new }
-        ensures full { IsFull self.old → IsFull self.new }
-        ensures slots { UseAtMost 4 self.old.pages self.new.pages }
-    {
-        self.rooms.prove_pages();
-        if left > 0 {
-            return Ok(None);
-        }
-        if !self.rooms.are_full() {
-            return Ok(None);
-        }
-        match self.vacate(asked, changes)? {
-            Vacated::Unmarked => Ok(None),
-            Vacated::Crowded => Ok(Some(Inserted::FrameFull)),
-            Vacated::Room(page) => {
-                let from = page as usize;
-                match self.add(key, size, asked, from, from + 1)? {
-                    Some(place) => Ok(Some(Inserted::Placed(place))),
-                    // There is room on that page.
-                    None => Ok(Some(Inserted::FrameFull)),
-                }
-            }
-        }
     }
 
     // Adds a key on the first page that has room for it, which is one of these, if any has; None if none has.

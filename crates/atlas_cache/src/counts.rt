@@ -9,8 +9,11 @@ pub struct Counts {
     pub hits: u64,
     /// The calls of `get` that didn't find theirs.
     pub misses: u64,
-    /// The entries that were evicted: by an insertion, a trim or a repacking.
+    /// The entries that were evicted: by an insertion, a trim, the end of a batch or a repacking.
     pub evictions: u64,
+    /// Of those that insertions evicted the ones that fragmentation cost: before the insertion some page had as much free area as was
+    /// asked for, with the padding, in parts that had no room. What an alignment adds isn't counted in.
+    pub forced: u64,
 }
 
 /// No calls yet.
@@ -18,6 +21,7 @@ pub const NO_COUNTS: Counts = Counts {
     hits: 0,
     misses: 0,
     evictions: 0,
+    forced: 0,
 };
 
 /// One more, up to 2^64 - 1.

@@ -26,7 +26,8 @@ mod reserving;
 mod usable;
 
 use crate::options::CacheOptions;
-use crate::rooms::asking::{NOTHING, Refusals, ask};
+use crate::rooms::asking::{Known, ask, changed};
+use crate::rooms::repacking::area_on;
 use atlas_entries::error::CacheError;
 use guillotiere::pages::prove_page;
 use guillotiere::{AllocId, Allocation, AtlasAllocator, AtlasError, Size};
@@ -37,19 +38,20 @@ use std::marker::Model;
 #[derive(Drop)]
 pub struct Rooms<A: Allocator + Copy = Global> {
     pages: Vec<AtlasAllocator<A>, A>,
-    // For each page two sizes that it has no room for: those that it refused last, as long as it doesn't change.
-    refused: Vec<Refusals, A>,
+    // For each page two sizes that it has no room for, those that it refused last, as long as it doesn't change; and the area of what is
+    // live on it.
+    known: Vec<Known, A>,
     options: CacheOptions,
 }
 
 impl<A: Allocator + Copy> Model for Rooms<A> {
-    ghost use Rattle.atlas_cache.specs.Rooms.{rooms_of, AreRefused, KeepsRooms, RoomsState};
+    ghost use Rattle.atlas_cache.specs.Rooms.{rooms_of, AreKnown, KeepsRooms, RoomsState};
 
     ghost Value = { RoomsState };
 
     ghost view = { λ r. rooms_of r.options r.pages.items };
 
-    ghost invariant = { λ r. KeepsRooms (rooms_of r.options r.pages.items) × AreRefused r.pages.items r.refused.items };
+    ghost invariant = { λ r. KeepsRooms (rooms_of r.options r.pages.items) × AreKnown r.pages.items r.known.items };
 }
 
 // Why a cache refuses what an atlas refused.
@@ -140,7 +142,7 @@ impl<A: Allocator + Copy> Rooms<A> {
     {
         Rooms {
             pages: Vec::new(alloc),
-            refused: Vec::new(alloc),
+            known: Vec::new(alloc),
             options,
         }
     }
@@ -249,7 +251,7 @@ impl<A: Allocator + Copy> Rooms<A> {
         ensures { PlacesBefore to asked self.old self.new result }
     {
         for page in from..to {
-            match ask(&mut self.pages[page], &mut self.refused[page], asked) {
+            match ask(&mut self.pages[page], &mut self.known[page], asked) {
                 Ok(None) => {}
                 Ok(Some(granted)) => return Ok(Some((number(page, self.options.pages), granted))),
                 Err(error) => return Err(refusal(error)),
@@ -268,8 +270,10 @@ impl<A: Allocator + Copy> Rooms<A> {
         ensures slots { UseAtMost 0 self.old.pages self.new.pages }
         ensures step { FreesOn self.old.pages self.new.pages page id }
     {
-        let _freed = self.pages[page as usize].deallocate(id);
-        self.refused[page as usize] = NOTHING;
+        let page = page as usize;
+        let area = area_on(&self.pages[page], id);
+        let _freed = self.pages[page].deallocate(id);
+        self.known[page] = changed(self.known[page].live - area);
     }
 
     /// The first page that isn't at its largest grows: the page, and its size from now on, in pixels. Its smaller side,
@@ -305,7 +309,7 @@ impl<A: Allocator + Copy> Rooms<A> {
         if let Err(error) = self.pages[page].grow(size) {
             return Err(refusal(error));
         }
-        self.refused[page] = NOTHING;
+        self.known[page] = changed(self.known[page].live);
         Ok(Some((number(page, self.options.pages), size)))
     }
 
@@ -335,11 +339,11 @@ impl<A: Allocator + Copy> Rooms<A> {
             return Ok(None);
         }
         let alloc = *self.pages.allocator();
-        self.refused.reserve(1)?;
+        self.known.reserve(1)?;
         match AtlasAllocator::with_options(alloc, self.options.page, &self.options.atlas) {
             Ok(page) => {
                 self.pages.push(page)?;
-                self.refused.push_reserved(NOTHING);
+                self.known.push_reserved(changed(0));
                 Ok(Some((number, self.options.page)))
             }
             Err(_) => Err(CacheError::Memory),
@@ -362,7 +366,7 @@ impl<A: Allocator + Copy> Rooms<A> {
             return None;
         }
         self.pages.truncate(last);
-        self.refused.truncate(last);
+        self.known.truncate(last);
         Some(number(last, self.options.pages))
     }
 
@@ -375,7 +379,7 @@ impl<A: Allocator + Copy> Rooms<A> {
     {
         for page in 0..self.pages.len() {
             let _cleared = self.pages[page].clear();
-            self.refused[page] = NOTHING;
+            self.known[page] = changed(0);
         }
     }
 }

@@ -474,3 +474,7 @@ module _ (s : PagedState) (new : List AtlasValue) (page : ℕ) where
 
 pub no_rectangle_off : (pages : List AtlasValue) (page id : ℕ) → length pages ≤ page → rectangle_on pages page id ≡ None
 no_rectangle_off pages page id past = let none = slice_get_past pages page past in rw none refl
+
+pub holds_on_ok : (r : Result (Unit {0}) PagesError) (P : Type 0) → P → OnOk r P
+holds_on_ok (Ok x) P holds = holds
+holds_on_ok (Err e) P holds = tt

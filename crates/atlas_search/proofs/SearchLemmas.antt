@@ -14,6 +14,8 @@ pub mod SearchesBefore
 pub mod Windows
 pub mod ItemPicks
 pub mod BlankHeads
+pub mod FewHeads
+pub mod FewLists
 pub mod Heaps
 pub mod Cells
 pub mod SameCells

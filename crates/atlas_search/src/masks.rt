@@ -80,7 +80,8 @@ impl Mask {
 
     /// The least number of the set, and 64 if there is none.
     pub fn first(self) -> usize
-        ensures { (k : ℕ) → IsMarked self k → result ≤ k }
+        ensures least { (k : ℕ) → IsMarked self k → result ≤ k }
+        ensures some { result < 64 → IsMarked self result }
     {
         self.bits.trailing_zeros() as usize
     }

@@ -11,14 +11,14 @@ ghost use Rattle.atlas_search.specs.Items.{Item, item_at, shown_items};
 ghost use Rattle.atlas_search.specs.Lookups.{AreBelow, AreFreeItems, AreListed, AreNoneApart, HasAdded};
 ghost use Rattle.atlas_search.specs.Lookups.{HasSearched, HasShown, IsBeyond, IsInColumn, IsInRow, IsSearch};
 ghost use Rattle.atlas_search.specs.Lookups.{IsStanding};
-ghost use Rattle.atlas_search.specs.Masks.{IsMarked};
+ghost use Rattle.atlas_search.specs.Masks.{IsMarked, has};
 ghost use Rattle.atlas_search.specs.Numbers.{no_slot};
 ghost use Rattle.atlas_search.specs.Rectangles.{IsSolid};
 ghost use Rattle.atlas_search.specs.Searches.{Shown};
 ghost use Rattle.atlas_search.specs.Showing.{IsListShowable, IsShowable};
 ghost use Rattle.atlas_search.specs.declared.cells.Cell.{Cell};
 ghost use Rattle.atlas_model.specs.Pixels.{box_of, options_of, sides_of};
-ghost use Rattle.atlas_search.specs.Tables.{is_used_at};
+ghost use Rattle.atlas_search.specs.Tables.{head_of, is_used_at};
 
 use crate::bands::{BANDS, Place, Scale};
 use crate::best::{Best, Found, corner};
@@ -26,7 +26,7 @@ use crate::cells::Cell;
 use crate::cut::exact_size;
 use crate::link::Link;
 use crate::masks::Mask;
-use crate::table::Table;
+use crate::table::{FEW, Table};
 use atlas_model::{Rectangle, Size};
 use std::alloc::Allocator;
 
@@ -124,14 +124,15 @@ fn search_list<A: Allocator, E: Entry>(
     place: Place,
     best: &mut Best,
 )
+    requires grown { table.now.is_grown ≡ true }
     requires row { place.row < BANDS }
     requires column { place.column < BANDS }
-    requires listed { (o : Options) × AreListed o table.now (map E.item entries.now) }
-    ensures { (o : Options) (end : ℕ) (r : Sides) → AreListed o table.now (map E.item entries.now)
+    requires listed { (o : Options) × AreListed o table.now.heads (map E.item entries.now) }
+    ensures { (o : Options) (end : ℕ) (r : Sides) → AreListed o table.now.heads (map E.item entries.now)
         → AreBelow end place.row place.column
         → HasAdded o (map E.item entries.now) end r (λ i j. (i ≡ place.row) × (j ≡ place.column)) best.old best.new }
 {
-    show_list(entries, table.head(place), best);
+    show_list(entries, table.stored_head(place), best);
 }
 
 // Shows lists of a row to a search.
@@ -143,10 +144,11 @@ fn search_row<A: Allocator, E: Entry>(
     columns: Mask,
     best: &mut Best,
 )
+    requires grown { table.now.is_grown ≡ true }
     requires row { row < BANDS }
     requires columns { (j : ℕ) → IsMarked columns j → j < BANDS }
-    requires listed { (o : Options) × AreListed o table.now (map E.item entries.now) }
-    ensures { (o : Options) (end : ℕ) (r : Sides) → AreListed o table.now (map E.item entries.now)
+    requires listed { (o : Options) × AreListed o table.now.heads (map E.item entries.now) }
+    ensures { (o : Options) (end : ℕ) (r : Sides) → AreListed o table.now.heads (map E.item entries.now)
         → ((j : ℕ) → IsMarked columns j → AreBelow end row j)
         → HasAdded o (map E.item entries.now) end r (IsInRow row columns) best.old best.new }
 {
@@ -165,10 +167,11 @@ fn search_column<A: Allocator, E: Entry>(
     rows: Mask,
     best: &mut Best,
 )
+    requires grown { table.now.is_grown ≡ true }
     requires column { column < BANDS }
     requires rows { (i : ℕ) → IsMarked rows i → i < BANDS }
-    requires listed { (o : Options) × AreListed o table.now (map E.item entries.now) }
-    ensures { (o : Options) (end : ℕ) (r : Sides) → AreListed o table.now (map E.item entries.now)
+    requires listed { (o : Options) × AreListed o table.now.heads (map E.item entries.now) }
+    ensures { (o : Options) (end : ℕ) (r : Sides) → AreListed o table.now.heads (map E.item entries.now)
         → ((i : ℕ) → IsMarked rows i → AreBelow end i column)
         → HasAdded o (map E.item entries.now) end r (IsInColumn column rows) best.old best.new }
 {
@@ -181,8 +184,9 @@ fn search_column<A: Allocator, E: Entry>(
 // The rows with a list that isn't empty in these columns.
 #[inline(never)]
 fn rows_with<A: Allocator>(table: &Table<A>, first: usize, end: usize) -> Mask
-    requires { end ≤ BANDS }
-    ensures { (i j : ℕ) → i < BANDS → first ≤ j → j < end → is_used_at table.now (52 * i + j) ≡ true
+    requires grown { table.now.is_grown ≡ true }
+    requires end { end ≤ BANDS }
+    ensures { (i j : ℕ) → i < BANDS → first ≤ j → j < end → is_used_at table.now.heads (52 * i + j) ≡ true
         → IsMarked result i }
 {
     let mut rows = Mask::none();
@@ -202,11 +206,12 @@ fn search_rows<A: Allocator, E: Entry>(
     end: usize,
     best: &mut Best,
 )
+    requires grown { table.now.is_grown ≡ true }
     requires rows { (i : ℕ) → IsMarked rows i → i < end }
     requires first { first ≤ BANDS }
     requires end { end ≤ BANDS }
-    requires listed { (o : Options) × AreListed o table.now (map E.item entries.now) }
-    ensures { (o : Options) (r : Sides) → AreListed o table.now (map E.item entries.now)
+    requires listed { (o : Options) × AreListed o table.now.heads (map E.item entries.now) }
+    ensures { (o : Options) (r : Sides) → AreListed o table.now.heads (map E.item entries.now)
         → HasAdded o (map E.item entries.now) end r (IsBeyond rows first end) best.old best.new }
 {
     let mut left = rows;
@@ -220,14 +225,15 @@ fn search_rows<A: Allocator, E: Entry>(
 // not less than the place's own, the greater of which is `far`.
 #[inline(always)]
 fn least_from<A: Allocator>(table: &Table<A>, own: Place, far: usize, columns: Mask) -> usize
-    requires columns { (j : ℕ) → own.column ≤ j → j < BANDS → is_used_at table.now (52 * own.row + j) ≡ true
-        → IsMarked columns j }
+    requires columns { table.now.is_grown ≡ true → (j : ℕ) → own.column ≤ j → j < BANDS
+        → is_used_at table.now.heads (52 * own.row + j) ≡ true → IsMarked columns j }
     requires row { own.row < BANDS }
     requires far { far ≡ max own.row own.column }
-    ensures reached { (i j : ℕ) → i < BANDS → j < BANDS → own.row ≤ i → own.column ≤ j
-        → is_used_at table.now (52 * i + j) ≡ true → (result ≤ i) ⊎ (result ≤ j) }
+    ensures reached { table.now.is_grown ≡ true → (i j : ℕ) → i < BANDS → j < BANDS → own.row ≤ i → own.column ≤ j
+        → is_used_at table.now.heads (52 * i + j) ≡ true → (result ≤ i) ⊎ (result ≤ j) }
     ensures row { own.row ≤ result }
     ensures column { own.column ≤ result }
+    ensures few { table.now.is_grown ≡ false → ((j : ℕ) → has columns j ≡ false) → BANDS ≤ result }
 {
     let rows = table.used().from(own.row + 1);
     columns.or(rows).first().max(far)
@@ -249,12 +255,13 @@ fn search_before<A: Allocator, E: Entry>(
     requires row { own.row < end }
     requires column { own.column < end }
     requires end { end ≤ BANDS }
+    requires grown { table.now.is_grown ≡ true }
     requires search { (o : Options) × (r : Sides) × (least : ℕ)
-        × IsSearch o table.now (map E.item entries.now) own r least columns rows }
+        × IsSearch o table.now.heads (map E.item entries.now) own r least columns rows }
     ensures best { (o : Options) (r : Sides) (least : ℕ)
-        → IsSearch o table.now (map E.item entries.now) own r least columns rows
+        → IsSearch o table.now.heads (map E.item entries.now) own r least columns rows
         → HasSeen best.old (class_of o r == 2) r [] → HasSearched o (map E.item entries.now) end r best.new }
-    ensures last { result ≡ true → AreNoneApart table.now own }
+    ensures last { result ≡ true → AreNoneApart table.now.heads own }
 {
     search_row(entries, table, own.row, columns.below(end), best);
     search_column(entries, table, own.column, rows.below(end), best);
@@ -267,6 +274,61 @@ fn search_before<A: Allocator, E: Entry>(
     others.is_empty()
 }
 
+// Shows the lists before a row and a column to a search, where only the first few slots come first in lists.
+fn search_few<A: Allocator, E: Entry>(entries: &[E], table: &Table<A>, end: usize, best: &mut Best)
+    requires end { end ≤ BANDS }
+    requires listed { (o : Options) × AreListed o table.now.heads (map E.item entries.now) }
+    requires grown { table.now.is_grown ≡ false }
+    requires few { (k : ℕ) → is_used_at table.now.heads k ≡ true → (head_of table.now.heads k).number < FEW }
+    ensures { (o : Options) (r : Sides) → AreListed o table.now.heads (map E.item entries.now)
+        → HasAdded o (map E.item entries.now) end r (AreBelow end) best.old best.new }
+{
+    for i in 0..FEW {
+        let list = table.list_of_few(i);
+        let row = list / BANDS;
+        let column = list % BANDS;
+        if row.max(column) < end {
+            show_list(entries, table.head(Place { row, column }), best);
+        }
+    }
+}
+
+// The free entry that a request of this rounded size takes, where only the first few slots come first in lists.
+#[cold]
+#[inline(never)]
+fn pick_few<A: Allocator, E: Entry>(
+    entries: &[E],
+    table: &Table<A>,
+    options: &Scale,
+    size: Size,
+) -> Option<Found>
+    requires positive { IsPositive (sides_of size) }
+    requires listed { AreListed (options_of options.now) table.now.heads (map E.item entries.now) }
+    requires grown { table.now.is_grown ≡ false }
+    requires few { (k : ℕ) → is_used_at table.now.heads k ≡ true → (head_of table.now.heads k).number < FEW }
+    ensures none { result ≡ None → (free : List Box) → AreFreeItems (map E.item entries.now) free → (b : Box)
+        → IsFitting free (sides_of size) b → ⊥ }
+    ensures picked { IfSome result
+        (λ found. (free : List Box) → AreFreeItems (map E.item entries.now) free
+        → IsPick free (options_of options.now) (sides_of size) (box_of found.rectangle)) }
+    ensures standing { IfSome result (IsStanding (map E.item entries.now)) }
+{
+    let own = options.place_for(size);
+    let is_large = own.row.max(own.column) >= options.large();
+    let mut least = 0;
+    while least < BANDS {
+        let end = options.end_after(least);
+        let mut best = Best::new(size, is_large);
+        search_few(entries, table, end, &mut best);
+        if let Some(at) = best.found() {
+            let rectangle = entries[at.number as usize].rectangle();
+            return Some(Found { rectangle, at });
+        }
+        least = end;
+    }
+    None
+}
+
 /// The free entry that a request of this rounded size takes.
 pub fn pick<A: Allocator, E: Entry>(
     entries: &[E],
@@ -275,7 +337,7 @@ pub fn pick<A: Allocator, E: Entry>(
     size: Size,
 ) -> Option<Found>
     requires positive { IsPositive (sides_of size) }
-    requires listed { AreListed (options_of options.now) table.now (map E.item entries.now) }
+    requires listed { AreListed (options_of options.now) table.now.heads (map E.item entries.now) }
     ensures none { result ≡ None → (free : List Box) → AreFreeItems (map E.item entries.now) free → (b : Box)
         → IsFitting free (sides_of size) b → ⊥ }
     ensures picked { IfSome result
@@ -304,5 +366,8 @@ pub fn pick<A: Allocator, E: Entry>(
         }
         least = end;
     }
-    None
+    if table.is_grown() {
+        return None;
+    }
+    pick_few(entries, table, options, size)
 }

@@ -1,5 +1,5 @@
 //! The slots of an atlas with their lists: each call keeps the tree that the slots represent, and the lists, in order.
-ghost use Rattle.std.specs.Prelude.{◌≡◌, ◌≢◌, ◌<◌, ◌≤◌, ◌↔◌, ℕ, true, false, IsTrue, IfOk, length};
+ghost use Rattle.std.specs.Prelude.{◌≡◌, ◌≢◌, ◌<◌, ◌≤◌, ◌↔◌, ℕ, true, false, IsTrue, IfOk, length, vec_capacity};
 ghost use Rattle.atlas_store.specs.declared.slots.NodeKind.TheVariants.{Alloc, Free};
 ghost use Rattle.atlas_model.specs.Trees.{most_slots};
 ghost use Rattle.atlas_search.specs.Numbers.{no_slot};
@@ -18,11 +18,11 @@ use crate::slots::{Node, NodeKind, Slot, join_next, lift, mark_free, read_node};
 use crate::store::turns::Turns;
 use atlas_search::bands::Scale;
 use atlas_search::link::{Link, NO_SLOT};
-use atlas_search::table::Table;
+use atlas_search::table::{FEW, Table};
 use std::alloc::{AllocError, Allocator};
 
 /// The slots, the lists that run through them, and the options by which free slots are listed. `turns` counts the
-/// markings, joins and lifts, and is nothing at run time.
+/// markings, joins and lifts, and is nothing at run time. The lists have room for the slots that there is memory for (`room`).
 #[derive(Drop)]
 pub struct Store<A: Allocator> {
     slots: Vec<Slot, A>,
@@ -31,6 +31,7 @@ pub struct Store<A: Allocator> {
     options: Scale,
     turns: Turns,
     recent: Recent,
+    ghost room: { lists.is_grown ≡ false → vec_capacity slots ≤ 8 },
 }
 
 impl<A: Allocator> Store<A> {
@@ -49,7 +50,11 @@ impl<A: Allocator> Store<A> {
         ensures turns { IfOk result (λ it. (turns_in it).count ≡ 0) }
     {
         let slots = Vec::from_slice(*self.slots.allocator(), &self.slots)?;
-        let lists = self.lists.copy()?;
+        let mut lists = self.lists.copy()?;
+        if slots.capacity() > FEW {
+            // Only where a copy has more memory than it holds.
+            lists.grow()?;
+        }
         Ok(Store {
             slots,
             lists,

@@ -1,8 +1,12 @@
 //! Glyphs under keys in a cache: what is written once, and a frame that is drawn in several goes.
 ghost use Rattle.std.specs.Prelude.{◌≡◌, ◌≢◌, ◌<◌, None, IfOk, IsSome, Ok, OnOk, Some, true, false, length, nat_eq};
+ghost use Rattle.std.specs.List.{list_any};
+ghost use Rattle.guillotiere.specs.Pixels.{size_of};
+ghost use Rattle.atlas_cache.specs.Asking.{bordered};
 ghost use Rattle.atlas_cache.specs.Caches.{place_for};
 ghost use Rattle.atlas_cache.specs.Entries.{lying};
 ghost use Rattle.atlas_cache.specs.Relocating.{keys_of};
+ghost use Rattle.atlas_cache.specs.Rooms.{has_area};
 ghost use Rattle.atlas_cache.specs.Shrinking.{pages_in_use};
 ghost use Rattle.atlas_cache.specs.declared.inserted.Inserted.TheVariants.{FrameFull};
 
@@ -27,6 +31,21 @@ pub fn place_of<A: Allocator + Copy>(
         Inserted::Held(place) => Ok(Some((place, false))),
         _ => Ok(None),
     }
+}
+
+/// A glyph's place, and whether glyphs went for it though some page had as much free area as it takes: then a repacking is worth its time.
+pub fn place_and_tell<A: Allocator + Copy>(
+    cache: &mut TextureCache<u64, DefaultHasher, A>,
+    key: u64,
+    size: Size,
+    changes: &mut Changes<u64, A>,
+) -> Result<(Inserted, bool), CacheError>
+    ensures { (placed : Inserted) → result ≡ Ok (placed, true)
+        → list_any (has_area (size_of (bordered cache.old.options size))) cache.old.pages ≡ true }
+{
+    let before = cache.statistics().forced;
+    let placed = cache.insert(key, size, changes)?;
+    Ok((placed, before < cache.statistics().forced))
 }
 
 /// A glyph's place, also where this frame has used all the room: then the caller draws what it has, and a new frame

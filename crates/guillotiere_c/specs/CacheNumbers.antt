@@ -27,7 +27,7 @@ place_in p =
     record { number = p.number; page = p.page; rectangle = corners_in p.rectangle; inner = corners_in p.inner }
 
 abbrev pub counts_in : PlainCounts → Counts
-counts_in c = record { hits = c.hits; misses = c.misses; evictions = c.evictions }
+counts_in c = record { hits = c.hits; misses = c.misses; evictions = c.evictions; forced = c.forced }
 
 abbrev pub cache_options_in : PlainCacheOptions → CacheOptions
 cache_options_in o =

@@ -90,7 +90,7 @@ pub extern "C" fn guillotiere_cache_page_size(
 }
 
 /// The areas of a page, counted from 0: that of its keys, with their padding and what the alignment added, and that which is
-/// free; together that of the page. Takes one pass over the slots of the page. A page with much that is free, from which keys
+/// free; together that of the page. Takes a step, however many keys there are. A page with much that is free, from which keys
 /// are evicted all the same, is worth a repacking. `DONE`; `NO_PAGE`; `EMPTY`.
 #[unsafe(no_mangle)]
 pub extern "C" fn guillotiere_cache_areas(
@@ -185,7 +185,8 @@ pub extern "C" fn guillotiere_cache_options_of(
 
 /// The counts since the cache was made. Where a frame asks by `guillotiere_cache_get`, and inserts what that doesn't find, the
 /// hit rate is `hits` by `hits` and `misses` together; where it only inserts, no miss is counted, and it is `hits` by calls.
-/// `DONE`; `EMPTY`.
+/// Where `forced` grows, a `guillotiere_cache_repack` or a `guillotiere_cache_compact` helps; where `evictions` grows without
+/// it, the pages are too small for what is drawn. `DONE`; `EMPTY`.
 #[unsafe(no_mangle)]
 pub extern "C" fn guillotiere_cache_statistics(cache: &CacheReader, counts: &mut PlainCounts) -> u32
     ensures counts { IsSome cache.now.kept → HoldsCache cache.now.kept (λ f. counts_in counts.new ≡ f.cache.counts) }

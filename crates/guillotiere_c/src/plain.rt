@@ -142,7 +142,7 @@ pub const PAGE_REMOVED: u32 = 4;
 /// The greatest limit on the slots of an atlas, and that of an atlas without a limit of its own.
 pub const MOST_SLOTS: u32 = 16_777_216;
 
-pub const INTERFACE: u32 = 2;
+pub const INTERFACE: u32 = 3;
 
 // The three numbers of the version.
 pub const VERSION_MAJOR: u32 = 0;

@@ -59,14 +59,17 @@ pub struct PlainCacheChange {
 }
 
 /// How often `guillotiere_cache_get` found its key or `guillotiere_cache_insert` answered `HELD` (`hits`), how often
-/// `guillotiere_cache_get` didn't find its key (`misses`), and how many keys an insertion, a trim or a repacking evicted. A
-/// count that reaches 18446744073709551615 stays there.
+/// `guillotiere_cache_get` didn't find its key (`misses`), and how many keys an insertion, a trim, the end of a batch or a
+/// repacking evicted (`evictions`). `forced` counts, of those that insertions evicted, the ones that fragmentation cost: before
+/// that insertion some page had as much free area as was asked for, with the padding, in parts that had no room. A count that
+/// reaches 18446744073709551615 stays there.
 #[repr(C)]
 #[derive(Clone, Copy)]
 pub struct PlainCounts {
     pub hits: u64,
     pub misses: u64,
     pub evictions: u64,
+    pub forced: u64,
 }
 
 // No place.
@@ -108,12 +111,13 @@ pub fn plain_place(place: Place) -> PlainPlace {
     }
 }
 
-/// Hits, misses and evictions as C has them.
+/// The counts of a cache as C has them.
 pub fn plain_counts(counts: Counts) -> PlainCounts {
     PlainCounts {
         hits: counts.hits,
         misses: counts.misses,
         evictions: counts.evictions,
+        forced: counts.forced,
     }
 }
 

@@ -56,7 +56,7 @@
 //!
 //! | call | its time grows by |
 //! |---|---|
-//! | [`AtlasAllocator::new`] | nothing; it takes 10,860 bytes |
+//! | [`AtlasAllocator::new`] | nothing; it takes 44 bytes, and the ninth slot 11,656, once |
 //! | [`allocate`](AtlasAllocator::allocate), [`can_fit`](AtlasAllocator::can_fit) | the lists of free boxes that are about as wide or as high, at most 103, since boxes are listed by 52 bands of their widths and 52 of their heights; of the boxes of one size in a list only the first is looked at; where none has just that width or height, one box of each size that is larger in both and may leave over less than the best so far |
 //! | [`deallocate`](AtlasAllocator::deallocate) | the slots that go where free space is joined, each of which goes once |
 //! | `atlas[id]`, [`get`](AtlasAllocator::get), [`size`](AtlasAllocator::size), [`is_empty`](AtlasAllocator::is_empty) | nothing |
@@ -67,7 +67,7 @@
 //! | [`PagedAtlas::allocate`] | a request to each page, until one has room; where none has, the making of a page |
 //! | [`PagedAtlas::shrink`], [`clear`](PagedAtlas::clear), [`iter`](PagedAtlas::iter) | the pages, `iter` also by the most slots of each |
 //! | `get`, `peek`, `contains_key` of a cache, `insert` of a key that is held | one look-up |
-//! | `insert` of a new key | a request to each page, until one has room, but for pages that refused a size no larger, of the last two, and haven't changed since; if none has room, an eviction and one more request, up to 16 times, and then the keys that this frame didn't use, until without them a page would have room |
+//! | `insert` of a new key | a step for each page; a request to each page, until one has room, but for pages that refused a size no larger, of the last two, and haven't changed since; if none has room, an eviction and one more request, up to 16 times, and then the keys that this frame didn't use, until without them a page would have room |
 //! | an eviction | a freeing; it passes each blank key that is older than the key that goes (see `insert`) once, and not again until it is used |
 //! | `remove`, `begin_frame` of a cache | one look-up, and a freeing; nothing |
 //! | `iter`, `keys` of a cache | the keys, by a step each, without a look-up |
@@ -76,6 +76,7 @@
 //! | `reserve_slots`, `clear` of a cache | the pages; `clear` also by the keys |
 //! | `compact` | all keys, and for each of the last page that is small enough a request to each page before it that isn't known to have no room |
 //! | `repack` | all keys, and the sorting of those on that page |
+//! | `live_area`, `free_area`, `statistics` of a cache | nothing |
 //! | `unusable_area` | the slots of that page |
 //! | `sheet::pack`, `fill` and the others | a request for each sprite, times the ways and sheets that are tried, times `effort` |
 //!
@@ -85,8 +86,10 @@
 //! - An atlas has 16,777,216 slots at most ([`MOST_SLOTS`]): one for each live box, each free box and each group of boxes between cuts.
 //! - The id of a freed box is given out again once its slot was taken 256 times, and may be at once after `clear`, `reset` or a
 //!   rearrangement: don't keep ids of what is freed.
-//! - Memory, where pointers have 64 bits: 10,860 bytes for an atlas, 60 for each slot. That was 105 bytes a live box among 65,536
-//!   equal tiles. It stays until the atlas is dropped or rearranged.
+//! - Memory, where pointers have 64 bits: 44 bytes for each slot, of eight at a time from the second on; 16 more for its rectangle, of 64
+//!   slots at a time from the first box on, with a list of these; and 11,656 once there is a ninth slot. So a new atlas takes 44 bytes, one
+//!   with a box 1,408, and one with a ninth slot 13,416, and a live box among 65,536 equal tiles took 105. A `SimpleAtlasAllocator` takes
+//!   32 for each free box, eight from the second on, and as much for the ninth. It stays until the atlas is dropped or rearranged.
 //! - A cache has up to 4,294,967,295 entries.
 //!
 //! # Errors

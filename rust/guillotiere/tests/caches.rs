@@ -75,7 +75,8 @@ fn the_least_recently_used_key_gives_way() {
         Counts {
             hits: 1,
             misses: 1,
-            evictions: 1
+            evictions: 1,
+            forced: 0
         }
     );
 }
@@ -95,7 +96,7 @@ fn two_loops_have_one_hit_rate() {
         }
         cache.statistics()
     };
-    let counts = |hits, misses| Counts { hits, misses, evictions: 0 };
+    let counts = |hits, misses| Counts { hits, misses, ..Counts::default() };
     assert_eq!([frames(true), frames(false)], [counts(4, 2), counts(4, 0)]);
 }
 
@@ -291,6 +292,39 @@ fn free_area_of_no_use() {
     assert_eq!(cache.unusable_area(0, size2(8, 16)), Ok(Some(0)));
     assert_eq!(cache.unusable_area(0, size2(-3, -9)), Ok(Some(0)));
     assert_eq!(cache.unusable_area(1, size2(8, 16)), Ok(None));
+}
+
+// On a page of 16 by 16 a key takes 8 by 8 with its border, so that 192 pixels are free. A second one has room only once it is gone: that
+// eviction is forced if the second one takes 192 pixels or less.
+#[test]
+fn evictions_are_forced_where_a_page_has_the_area() {
+    let forced_by = |padding, width, height| {
+        let mut cache = TextureCache::new(&CacheOptions { pages: 1, padding, ..CacheOptions::new(size2(16, 16)) }).unwrap();
+        let side = 8 - 2 * padding;
+        assert!(matches!(cache.insert(1, size2(side, side)), Ok(Inserted::Placed(_))));
+        cache.begin_frame();
+        assert!(matches!(cache.insert(2, size2(width, height)), Ok(Inserted::Placed(_))));
+        let counts = cache.statistics();
+        assert_eq!(counts.evictions, 1);
+        counts.forced
+    };
+    assert_eq!((forced_by(0, 16, 12), forced_by(0, 16, 13)), (1, 0)); // 192 and 208 pixels
+    assert_eq!((forced_by(1, 14, 10), forced_by(1, 14, 11)), (1, 0)); // the same with the border; 154 without
+}
+
+// Two keys of 16 by 4 leave 16 by 8, as many pixels as 8 by 16 has: both are forced to go. What a trim evicts isn't forced.
+#[test]
+fn two_forced_evictions_count_as_two() {
+    let mut cache = TextureCache::new(&CacheOptions { pages: 1, ..CacheOptions::new(size2(16, 16)) }).unwrap();
+    for key in [1, 2] {
+        assert!(matches!(cache.insert(key, size2(16, 4)), Ok(Inserted::Placed(_))));
+    }
+    cache.begin_frame();
+    assert!(matches!(cache.insert(3, size2(8, 16)), Ok(Inserted::Placed(_))));
+    let counted = |counts: Counts| (counts.evictions, counts.forced);
+    assert_eq!(counted(cache.statistics()), (2, 2));
+    cache.trim(0).unwrap();
+    assert_eq!(counted(cache.statistics()), (3, 2));
 }
 
 // Key 2, the largest, comes first to the corner, and 3, 6 by 8, to its right; for 1, as large as 3, a strip of 7 rows is left below. So all

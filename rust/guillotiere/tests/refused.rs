@@ -274,18 +274,26 @@ fn granted_in_the_end<T, E: PartialEq + std::fmt::Debug>(
 fn copies_are_refused() {
     let mut simple = SimpleAtlasAllocator::new(size2(9, 9));
     assert!(simple.allocate(size2(9, 9)).is_some());
-    // Its list of free rectangles is empty, and takes room for one all the same.
-    let mut copy = granted_in_the_end(2, || simple.try_clone(), AtlasError::Memory);
+    // Its list of free rectangles is empty, and takes room for one all the same; its table of lists takes none.
+    let mut copy = granted_in_the_end(1, || simple.try_clone(), AtlasError::Memory);
     assert_eq!(copy.allocate(size2(1, 1)), None);
     granting(0, || copy.clear());
     assert!(copy.is_empty());
+    let mut divided = SimpleAtlasAllocator::new(size2(99, 99));
+    for side in 1..10 {
+        assert!(divided.allocate(size2(side, side)).is_some()); // one more free rectangle
+    }
+    // With a ninth free rectangle the table takes memory too.
+    let copy = granted_in_the_end(2, || divided.try_clone(), AtlasError::Memory);
+    assert_eq!(copy.slots(), divided.slots());
+    assert!(copy.slots().used > 8);
     let atlas = recorded(RECORDED_CALLS.len());
     let copy = granted_in_the_end(4, || atlas.try_clone(), AtlasError::Memory);
     assert_eq!(copy.recording(), atlas.recording());
     assert_eq!(copy.allocations(), atlas.allocations());
     let mut cache = TextureCache::<u64>::new(&CacheOptions::new(size2(16, 16))).unwrap();
     assert!(cache.insert(7, size2(6, 5)).is_ok());
-    // Its map, its entries, their order, its pages, what they refused, an atlas, and the changes.
+    // Its map, its entries, their order, its pages, what is known of them, an atlas, and the changes.
     let mut copy = granted_in_the_end(7, || cache.try_clone(), CacheError::Memory);
     assert_eq!(copy.get(7), cache.get(7));
 }

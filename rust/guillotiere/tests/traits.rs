@@ -76,6 +76,7 @@ fn values_are_compared_hashed_and_made() {
         hits: 0,
         misses: 0,
         evictions: 0,
+        forced: 0,
     });
 }
 

@@ -111,6 +111,16 @@ impl<T, A: Allocator> Vec<T, A> {
         self.grow(additional)
     }
 
+    /// Makes room for so many more items. The capacity never shrinks, and nothing is asked for where there is room; else it
+    /// grows to what is needed.
+    pub fn reserve_exact(&mut self, additional: usize) -> Result<(), AllocError> {
+        if additional <= self.items.capacity() - self.items.len() {
+            return Ok(());
+        }
+        let needed = self.items.len().checked_add(additional).ok_or(AllocError)?;
+        self.move_to(needed)
+    }
+
     /// How many items it has room for.
     #[inline]
     pub fn capacity(&self) -> usize {

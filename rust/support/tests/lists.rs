@@ -50,6 +50,32 @@ fn reserves_twice_as_much_or_what_is_needed() {
 }
 
 #[test]
+fn reserves_exactly_what_is_needed() {
+    for (capacity, items, additional, expected) in [
+        (0, 0, 0, 0),
+        (0, 0, 1, 1),
+        (1, 1, 7, 8),
+        (5, 0, 5, 5),
+        (5, 3, 3, 6),
+        (10, 1, 9, 10),
+    ] {
+        let mut list = Vec::with_capacity(Global, capacity).unwrap();
+        list.resize(items, 7u32).unwrap();
+        list.reserve_exact(additional).unwrap();
+        assert_eq!(list.capacity(), expected, "{capacity} {items} {additional}");
+        assert_eq!(list.len(), items);
+    }
+    let heap = Refusing::new(Global);
+    let mut list = Vec::with_capacity(&heap, 1).unwrap();
+    list.push_reserved(5);
+    heap.refuse_every();
+    assert_eq!(list.reserve_exact(1), Err(AllocError));
+    assert_eq!(list.reserve_exact(usize::MAX), Err(AllocError));
+    assert_eq!(list, [5]);
+    assert_eq!(list.capacity(), 1);
+}
+
+#[test]
 fn asks_for_nothing_where_there_is_room() {
     let heap = Refusing::new(Global);
     let (made, mut list) = requests(&heap, || Vec::with_capacity(&heap, 6).unwrap());

@@ -84,7 +84,8 @@ def test_scrolls(page):
     state = compare(page)
     told = shown(page)
     for name, value in {'hits': state['statistics']['hits'], 'misses': state['statistics']['misses'],
-                        'evicted': state['statistics']['evictions'], 'glyphs': state['length'], 'pages': state['pageCount']}.items():
+                        'evicted': state['statistics']['evictions'], 'forced': state['statistics']['forced'],
+                        'glyphs': state['length'], 'pages': state['pageCount']}.items():
         assert told[name] == str(value), (name, told)
     assert state['pageCount'] == 2 and state['statistics']['hits'] > state['statistics']['misses']
     page.wait('document.getElementById("counts").textContent.includes("%d glyphs on 2 pages")' % state['length'])

@@ -110,12 +110,12 @@ def test_names(page):
 
 
 def test_size(page):
-    """What the page loads: itself and the module, under 250 kB together, and under 95 by gzip."""
+    """What the page loads: itself and the module, under 254 kB together, and under 100.5 by gzip."""
     names = page.run('return performance.getEntriesByType("resource").map((each) => each.name)')
     names = [name for name in names if name.startswith('http')]
     plain, packed = page.measure([page.address] + names)
     assert [name.split('/')[-1] for name in names] == ['wollemigo.wasm'], names
-    assert plain < 250000 and packed < 98000, (plain, packed)
+    assert plain < 254000 and packed < 100500, (plain, packed)
     page.notes.append('%s loads two files: %d bytes, %d packed by gzip' % (page.browser.name, plain, packed))
 
 

@@ -113,5 +113,5 @@ export const SEVENS = {
   options: { alignment: { width: 7, height: 7 }, smallSizeThreshold: 7, largeSizeThreshold: 7 },
   slots: { used: 7, kept: 7, limit: 7 },
   areas: { allocated: 7, free: 7 },
-  counts: { hits: 7, misses: 7, evictions: 7 },
+  counts: { hits: 7, misses: 7, evictions: 7, forced: 7 },
 };

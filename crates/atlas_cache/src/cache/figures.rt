@@ -39,7 +39,7 @@ impl<K: Copy + Eq + Hash, S: BuildHasher, A: Allocator + Copy> TextureCache<K, S
     }
 
     /// The area of all entries of a page together, with their padding and what alignment added, in pixels; None if
-    /// there is no such page. Takes no memory, and one pass over the slots of the page.
+    /// there is no such page. Takes no memory, and no walk.
     pub fn live_area(&self, page: u32) -> Option<u64>
         ensures { result ≡ slice_get (live_by_page self.now.pages) page }
     {
@@ -50,8 +50,7 @@ impl<K: Copy + Eq + Hash, S: BuildHasher, A: Allocator + Copy> TextureCache<K, S
         }
     }
 
-    /// The area of a page that no entry takes, in pixels; None if there is no such page. Takes no memory, and one pass
-    /// over the slots of the page.
+    /// The area of a page that no entry takes, in pixels; None if there is no such page. Takes no memory, and no walk.
     pub fn free_area(&self, page: u32) -> Option<u64>
         ensures { result ≡ slice_get (free_by_page self.now.pages) page }
     {

@@ -11,18 +11,21 @@ ghost use Rattle.guillotiere.specs.Steps.{Step};
 ghost use Rattle.guillotiere.specs.Steps.AtlasCall.{Allocate};
 ghost use Rattle.guillotiere.specs.Steps.AtlasReply.{Allocated, Refused};
 ghost use Rattle.guillotiere.specs.Stored.{state_of, AtlasValue};
-ghost use Rattle.atlas_cache.specs.Rooms.{IsRefused};
+ghost use Rattle.atlas_cache.specs.Rooms.{live_area, IsKnown};
 
+use crate::rooms::repacking::area_of;
 use guillotiere::{Allocation, AtlasAllocator, AtlasError, Size};
 use std::alloc::Allocator;
 
-/// Two sizes that a page has no room for.
+/// What is kept of a page: two sizes that it has no room for, and the area of what is live on it.
 #[derive(Clone, Copy)]
-pub struct Refusals {
+pub struct Known {
     /// What it refused last.
     pub first: Size,
     /// What it refused before that.
     pub second: Size,
+    /// The area of what is live on it, in pixels.
+    pub live: u64,
 }
 
 // A size that no page has room for.
@@ -31,11 +34,16 @@ const NO_SIZE: Size = Size {
     height: 0,
 };
 
-/// What is known of a page that refused nothing.
-pub const NOTHING: Refusals = Refusals {
-    first: NO_SIZE,
-    second: NO_SIZE,
-};
+/// What is known of a page that changed: the area of what is live on it now.
+pub fn changed(live: u64) -> Known
+    ensures { (page : AtlasValue) → live ≡ live_area page → IsKnown result page }
+{
+    Known {
+        first: NO_SIZE,
+        second: NO_SIZE,
+        live,
+    }
+}
 
 // Whether a page with no room for one size, of which no side is below 1, has none for another either.
 fn is_no_smaller(asked: Size, refused: Size) -> bool
@@ -49,30 +57,30 @@ fn is_no_smaller(asked: Size, refused: Size) -> bool
 }
 
 // One more size that a page has no room for. Where that is no larger than the first, it takes its place.
-fn with(refused: Refusals, asked: Size) -> Refusals
-    ensures { (page : AtlasValue) → IsRefused refused page → (HasRoomFor asked page → ⊥) → IsRefused result page }
+fn with(known: Known, asked: Size) -> Known
+    ensures { (page : AtlasValue) → IsKnown known page → (HasRoomFor asked page → ⊥) → IsKnown result page }
 {
-    if is_no_smaller(refused.first, asked) {
-        return Refusals {
-            first: asked,
-            second: refused.second,
-        };
-    }
-    Refusals {
+    let second = if is_no_smaller(known.first, asked) {
+        known.second
+    } else {
+        known.first
+    };
+    Known {
         first: asked,
-        second: refused.first,
+        second,
+        live: known.live,
     }
 }
 
-/// Asks a page, as `allocate` does. It isn't searched if it is known to have no room: it had none for a size in `refused`, which
-/// isn't larger. From then on `refused` is what it has no room for: this size and one of those before, or `NOTHING` where it granted it.
+/// Asks a page, as `allocate` does. It isn't searched if it is known to have no room: it had none for a size in `known`, which
+/// isn't larger. From then on `known` is what is known of the page: that it has none for this size either, where it granted nothing.
 pub fn ask<A: Allocator + Copy>(
     page: &mut AtlasAllocator<A>,
-    refused: &mut Refusals,
+    known: &mut Known,
     asked: Size,
 ) -> Result<Option<Allocation>, AtlasError>
-    requires { IsRefused refused.old page.old }
-    ensures known { IsRefused refused.new page.new }
+    requires { IsKnown known.old page.old }
+    ensures known { IsKnown known.new page.new }
     ensures answer { IsAnswer (state_of page.old) asked result }
     ensures exact { IfOk result (λ granted. IfSome granted (λ allocation. IsExact allocation.rectangle)) }
     ensures adds { IfOk result (λ granted. IfSome granted (λ a.
@@ -89,17 +97,22 @@ pub fn ask<A: Allocator + Copy>(
     ensures memory { HasReserve 4 page.old → result ≢ Err AtlasError.Memory }
 {
     page.prove_sound();
-    if is_no_smaller(asked, refused.first) {
+    let _size = page.size();
+    if is_no_smaller(asked, known.first) {
         return Ok(None);
     }
-    if is_no_smaller(asked, refused.second) {
+    if is_no_smaller(asked, known.second) {
         return Ok(None);
     }
-    let granted = page.allocate(asked);
-    if let Ok(None) = granted {
-        *refused = with(*refused, asked);
-        return Ok(None);
+    match page.allocate(asked) {
+        Ok(None) => {
+            *known = with(*known, asked);
+            Ok(None)
+        }
+        Ok(Some(granted)) => {
+            *known = changed(known.live + area_of(granted.rectangle));
+            Ok(Some(granted))
+        }
+        Err(error) => Err(error),
     }
-    *refused = NOTHING;
-    granted
 }

@@ -1,11 +1,12 @@
 //! A page's rectangles placed anew, and the areas of a page.
 ghost use Rattle.std.specs.Prelude.{◌≡◌, ◌+◌, ◌-◌, ◌*◌, ◌<◌, All, Err, IsPermutation, length, map, slice_get, IfErr, IfOk, IfSome};
 ghost use Rattle.std.specs.Prelude.{IsOkUnless, IsTrue, Ok, OnErr, OnOk, None, Some, []};
-ghost use Rattle.guillotiere.specs.Boxes.{area, box_sides};
+ghost use Rattle.std.specs.List.{list_any};
+ghost use Rattle.guillotiere.specs.Boxes.{area, box_sides, Box};
 ghost use Rattle.guillotiere.specs.Pixels.{box_of, sides_of};
 ghost use Rattle.guillotiere.specs.Rearranging.{rearrangement_of, AreExactChanges};
 ghost use Rattle.guillotiere.specs.Refits.Refitted.{HasExactRectangle, IsRefitOf};
-ghost use Rattle.guillotiere.specs.Replies.{allocate_reply, grant_of, IsExact};
+ghost use Rattle.guillotiere.specs.Replies.{allocate_reply, grant_of, live_box, IsExact};
 ghost use Rattle.guillotiere.specs.Reserves.{UsesAtMost};
 ghost use Rattle.guillotiere.specs.States.{used_in};
 ghost use Rattle.guillotiere.specs.Steps.{Step};
@@ -13,14 +14,14 @@ ghost use Rattle.guillotiere.specs.Steps.AtlasCall.{Allocate};
 ghost use Rattle.guillotiere.specs.Stored.{state_of};
 ghost use Rattle.atlas_cache.specs.Repacking.{free_by_page, live_by_page, IsLargestFirst, LosesSome, NamesPage, PlacesAnew};
 ghost use Rattle.atlas_cache.specs.Repacking.{RepacksPage};
-ghost use Rattle.atlas_cache.specs.Rooms.{page_sizes, IsRefusal};
+ghost use Rattle.atlas_cache.specs.Rooms.{has_area, page_sizes, IsRefusal};
 ghost use Rattle.atlas_entries.specs.declared.error.CacheError.TheVariants.{Slots};
 
-use crate::rooms::asking::NOTHING;
-use crate::rooms::usable::extent;
+use crate::rooms::asking::changed;
+use crate::rooms::usable::{extent, pixels_of};
 use crate::rooms::{Rooms, refusal};
 use atlas_entries::error::CacheError;
-use guillotiere::{Allocation, AtlasAllocator, Change, ChangeList, Rectangle, Size};
+use guillotiere::{AllocId, Allocation, AtlasAllocator, Change, ChangeList, Rectangle, Size};
 use std::alloc::Allocator;
 use std::cmp::Reverse;
 
@@ -29,6 +30,16 @@ pub(crate) fn area_of(rectangle: Rectangle) -> u64
     ensures { result ≡ area (box_of rectangle) }
 {
     extent(rectangle.min.x, rectangle.max.x) * extent(rectangle.min.y, rectangle.max.y)
+}
+
+// How many pixels the rectangle of a live id has.
+pub(crate) fn area_on<A: Allocator + Copy>(page: &AtlasAllocator<A>, id: AllocId) -> u64
+    ensures { (box : Box) → live_box (state_of page.now) id ≡ Some box → result ≡ area box }
+{
+    match page.get(id) {
+        Some(rectangle) => area_of(rectangle),
+        None => 0,
+    }
 }
 
 // Puts rectangles into the order in which they are placed: the largest first. Those of one area keep their order.
@@ -141,26 +152,41 @@ impl<A: Allocator + Copy> Rooms<A> {
         if whole && !list.failures.is_empty() {
             return Ok(None);
         }
+        self.known[page] = changed(placed.allocated_area());
         self.pages[page] = placed;
-        self.refused[page] = NOTHING;
         Ok(Some(list))
     }
 
     /// The area of all live rectangles of a page together, in unit squares. Requires that there is such a page. Takes no
-    /// memory, and one pass over the slots of the page.
+    /// memory, and no walk.
     pub fn live_area(&self, page: u32) -> u64
         requires { page < length self.now.pages }
         ensures { slice_get (live_by_page self.now.pages) page ≡ Some result }
     {
-        self.pages[page as usize].allocated_area()
+        self.known[page as usize].live
     }
 
     /// The area of all free rectangles of a page together, in unit squares. Requires that there is such a page. Takes no
-    /// memory, and one pass over the slots of the page.
+    /// memory, and no walk.
     pub fn free_area(&self, page: u32) -> u64
         requires { page < length self.now.pages }
         ensures { slice_get (free_by_page self.now.pages) page ≡ Some result }
     {
-        self.pages[page as usize].free_area()
+        let atlas = &self.pages[page as usize];
+        atlas.prove_sound();
+        pixels_of(atlas.size()) - self.known[page as usize].live
+    }
+
+    /// Whether some page has as much free area as a request of this size has, in however many parts. A step for each page until then.
+    pub(crate) fn have_area(&self, asked: Size) -> bool
+        ensures { result ≡ list_any (has_area asked) self.now.pages }
+    {
+        let pixels = pixels_of(asked);
+        for page in 0..self.len() {
+            if pixels <= self.free_area(page) {
+                return true;
+            }
+        }
+        false
     }
 }

@@ -31,6 +31,13 @@ pub fn extent(from: i32, to: i32) -> u64
     (to.max(0) as u64).saturating_sub(from.max(0) as u64)
 }
 
+/// How many pixels a size has. A side below 0 counts as 0.
+pub fn pixels_of(size: Size) -> u64
+    ensures { result ≡ natural size.width * natural size.height }
+{
+    extent(0, size.width) * extent(0, size.height)
+}
+
 // The area of a free rectangle, if one of these sides doesn't fit it.
 fn unusable_of(free: &Rectangle, width: u64, height: u64) -> u64
     ensures { result ≡ unusable (record { width = width; height = height }) (box_of free.now) }

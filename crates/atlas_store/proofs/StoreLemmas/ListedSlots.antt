@@ -1,5 +1,6 @@
 -- Slots join and leave lists.
-use Rattle.std.proofs.Common.{ℕ, ◌<◌, ◌≤◌, ◌≡◌, ◌≢◌, ◌⊎◌, ◌∷◌, List, length, map, true, false, refl, sym, ap, subst, ◌∙◌, inl, inr, arith}
+use Rattle.std.proofs.Common.{ℕ, ◌<◌, ◌≤◌, ◌≡◌, ◌≢◌, ◌⊎◌, ◌∷◌, List, length, map, Bool, true, false, refl, sym, ap}
+use Rattle.std.proofs.Common.{subst, ◌∙◌, inl, inr, arith}
 use Rattle.std.specs.Prelude.{if◌then◌else◌, ◌==◌}
 use Rattle.std.proofs.lemmas.Bool.{cases_eq, cond-true, cond-false, eq-eqb, ne_eqb}
 use Rattle.std.proofs.lemmas.List.{length-map}
@@ -11,13 +12,13 @@ use Rattle.atlas_model.specs.Trees.{most_slots}
 use Rattle.atlas_search.specs.declared.cells.Cell.{Cell}
 use Rattle.atlas_search.specs.declared.link.Link.{Link}
 use Rattle.atlas_search.specs.Bands.{list_of}
-use Rattle.atlas_search.specs.Forks.{IsSorted, cell_of}
+use Rattle.atlas_search.specs.Forks.{IsListed, IsSorted, cell_of}
 use Rattle.atlas_search.specs.HeapCalls.{CanPush, CanRemove, HasPushed, HasRemoved, IsSoundHeap}
 use Rattle.atlas_search.specs.Heaps.{Heap, IsHeap, members, tag_of}
 use Rattle.atlas_search.specs.Items.{Item, item_at, item_sides}
 use Rattle.atlas_search.specs.Numbers.{no_slot, occurs, same, without, lists_with}
 use Rattle.atlas_search.specs.Rectangles.{IsSolid}
-use Rattle.atlas_search.specs.Tables.{head_of, is_used_at}
+use Rattle.atlas_search.specs.Tables.{head_of, is_used_at, CanHold}
 use Rattle.atlas_store.specs.declared.slots.Slot.{Slot}
 use Rattle.atlas_store.specs.declared.slots.Ring.{Ring}
 use Rattle.atlas_store.specs.declared.slots.NodeKind.TheVariants as kind
@@ -29,7 +30,8 @@ use Rattle.atlas_store.specs.Slots.Picks.{AreExact, IsFreeSlot, unlinked_slot}
 use Rattle.atlas_search.proofs.Occurrences.{occurs-without, same-self, same-ne, without-none}
 use Rattle.atlas_search.proofs.SearchLemmas.BandLaws.{list_of-most}
 use Rattle.atlas_search.proofs.HeapLemmas.Removing.{top-only, up-of}
-use Rattle.atlas_search.proofs.SearchLemmas.Heaps.{none-of}
+use Rattle.atlas_search.proofs.SearchLemmas.FewHeads.{holds}
+use Rattle.atlas_search.proofs.SearchLemmas.Heaps.{none-of, top-of}
 use Rattle.atlas_search.proofs.SearchLemmas.SortedLists.{HasCell, list-cells, removed-sorted, routed-by, sorted-by}
 use Rattle.atlas_store.proofs.SlotLemmas.Entries.{entries-of}
 use Rattle.atlas_store.proofs.StoreLemmas.FiledSlots.{AreFiled-listed, AreFiled-unlisted, AreFreeOnce, detached-nowhere, is-used}
@@ -143,6 +145,18 @@ module _ (o : Options) (slots : List Slot) (heads : List Link) (i : ℕ) (free :
         sym (listed-list o (nodes slots) (rings slots) heads unused p f m k below on),
       )
 
+  -- Each list with its slots; one of these slots only where the list is its own.
+  lists-of : (x : ℕ) → ((k : ℕ) → k < 2704 → 0 < occurs x (p.free_lists k) → k ≡ m)
+      → (k : ℕ) → k < 2704 → (xs : List ℕ) × IsListed (items slots) k (head_of heads k).number xs × (0 < occurs x xs → k ≡ m)
+  lists-of x own k l = (p.free_lists k, listed-heap slots k (head_of heads k) (p.free_lists k) ((f.free k l).links), own k l)
+
+  list-at : (k x : ℕ) → k < 2704 → 0 < occurs x (p.free_lists k) → k ≡ list_for o (node_at (nodes slots) x)
+  list-at k x l here = listed-list o (nodes slots) (rings slots) heads unused p f k x l here
+
+  -- What stands in its list stands in no other.
+  apart : (x : ℕ) → 0 < occurs x (members h.0) → (k : ℕ) → k < 2704 → 0 < occurs x (p.free_lists k) → k ≡ m
+  apart x here k l there = list-at k x l there ∙ sym (list-at m x below (omega (arith, here, h.2 x)))
+
   -- It joins its list.
   module _ (kept : p.detached i ≡ true) (near : ℕ) (is_near : IsNear near (p.free_lists m)) where
     none : occurs i (p.free_lists m) ≡ 0
@@ -169,6 +183,24 @@ module _ (o : Options) (slots : List Slot) (heads : List Link) (i : ℕ) (free :
         let w = pushes h.0 can in
         let empty = none-of (items new) (tag_of m) top w.grown (omega (arith, short, long, items-length new)) w.heap e in
         omega (arith, w.has i, same-self i, ap (λ (q : Heap). occurs i (members q)) empty)
+
+    -- A list of few slots can be held.
+    pub joined-few : length slots ≤ 8 → (new : List Slot) (top : Link)
+        → ((g : Heap) → CanPush (items slots) (tag_of m) first.number near i g → HasPushed (items slots) (items new) (tag_of m) top.number i
+        g)
+        → length new ≡ length slots → CanHold heads m top
+    joined-few few new top pushes long =
+        let w = pushes h.0 can in
+        holds (items slots) heads m top (items new) (tag_of m) w.grown (omega (arith, few, items-length slots))
+        (omega (arith, long, items-length slots, items-length new)) w.heap
+        (lists-of top.number (λ k l on. elim (cases_eq top.number i) [
+          | inl e ↦ list-at k i l (subst (λ n. 0 < occurs n (p.free_lists k)) e on)
+          | inr ne ↦
+              let t = top-of (items new) (tag_of m) top.number w.grown w.heap (joined-some new top.number pushes long) in
+              let in_grown : 0 < occurs top.number (members w.grown) =
+              omega (arith, ap (λ (q : Heap). occurs top.number (members q)) t.is, same-self top.number) in
+              apart top.number (omega (arith, in_grown, w.has top.number, same-ne top.number i ne)) k l on
+        ]))
 
     pub joined : (new : List Slot) (heads' : List Link) (top : Link)
         → ((g : Heap) → CanPush (items slots) (tag_of m) first.number near i g → HasPushed (items slots) (items new) (tag_of m) top.number i
@@ -214,9 +246,13 @@ module _ (o : Options) (slots : List Slot) (heads : List Link) (i : ℕ) (free :
     is-up = sym (ap (λ (e : Item). e.up) (item-is slots i))
 
     -- What stands above it tells the list if it is the first.
-    pub tells : 4261412864 ≤ (ring_at (rings slots) i).up.number
+    pub tells : (is_grown : Bool) → (is_grown ≡ false → length slots ≤ 8) → (new : List Slot) (rest : Link)
+        → ((tag top : ℕ) (g : Heap) → CanRemove (items slots) tag top i g → HasRemoved (items slots) (items new) tag top rest.number i g)
+        → length new ≡ length slots → 4261412864 ≤ (ring_at (rings slots) i).up.number
         → (k : ℕ) × (k < 2704) × ((ring_at (rings slots) i).up.number ≡ tag_of k) × (is_used_at heads k ≡ true)
-    tells many =
+        × (is_grown ≡ false → CanHold heads k rest)
+    tells is_grown few new rest removes long many =
+        let w = removes (tag_of m) first.number h.0 can-leave in
         let is_top = top-only (items slots) (tag_of m) first.number i h.0 can-leave (omega (arith, many, is-up, short, items-length slots))
         in (
           m,
@@ -224,6 +260,19 @@ module _ (o : Options) (slots : List Slot) (heads : List Link) (i : ℕ) (free :
           is-up ∙ up-of (items slots) (tag_of m) first.number h.0 i (sym is_top) can-leave.member h.1,
           is-used (nodes slots) (rings slots) heads m i (p.free_lists m)
               (omega (arith, short, length-map slots ring_of)) ((f.free m below).links) on,
+          λ small. elim (cases_eq rest.number no_slot) [
+            | inl none ↦ inl none
+            | inr some ↦
+                let is : IsHeap (items new) (tag_of m) rest.number w.less =
+                subst (λ n. IsHeap (items new) (tag_of m) n w.less)
+                (cond-true (i == first.number) rest.number first.number (eq-eqb i first.number is_top)) w.heap in
+                let t = top-of (items new) (tag_of m) rest.number w.less is some in
+                let in_less : 0 < occurs rest.number (members w.less) =
+                omega (arith, ap (λ (q : Heap). occurs rest.number (members q)) t.is, same-self rest.number) in
+                holds (items slots) heads m rest (items new) (tag_of m) w.less (omega (arith, few small, items-length slots))
+                (omega (arith, long, items-length slots, items-length new)) is
+                (lists-of rest.number (apart rest.number (omega (arith, in_less, w.has rest.number))))
+          ],
         )
 
     pub left : (new : List Slot) (heads' : List Link) (up rest : Link) → up ≡ (ring_at (rings slots) i).up
@@ -250,7 +299,6 @@ module _ (o : Options) (slots : List Slot) (heads : List Link) (i : ℕ) (free :
         -- Which list is told.
         own : (k : ℕ) → up.number ≡ (ring_at (rings slots) i).up.number → up.number ≡ tag_of k → k ≡ m
         own k e is =
-            let t = tells (omega (arith, e, is)) in
             let is_top = top-only (items slots) (tag_of m) first.number i h.0 can-leave
             (omega (arith, e, is, is-up, short, items-length slots)) in
             omega (arith, is, e, is-up, up-of (items slots) (tag_of m) first.number h.0 i (sym is_top) can-leave.member h.1)

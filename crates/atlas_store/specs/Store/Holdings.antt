@@ -17,7 +17,7 @@ use Rattle.atlas_store.specs.Stored.{Shelf, Holding, Holds}
 -- The stored part of a store.
 abbrev pub shelf_of : {A : Type 0} → Store A → Shelf
 shelf_of s =
-    record { slots = s.slots.items; heads = s.lists; unused = s.unused; recent = s.recent; options = s.options }
+    record { slots = s.slots.items; heads = s.lists.heads; unused = s.unused; recent = s.recent; options = s.options }
 
 -- For how many slots there is memory.
 abbrev pub capacity_in : {A : Type 0} → Store A → ℕ

@@ -3,7 +3,7 @@ ghost use Rattle.std.specs.Prelude.{◌≡◌, ◌<◌, ◌≤◌, ◌⊎◌, �
 ghost use Rattle.std.specs.Prelude.{if◌then◌else◌};
 ghost use Rattle.atlas_search.specs.Heaps.{tag_of};
 ghost use Rattle.atlas_search.specs.Numbers.{no_slot, occurs};
-ghost use Rattle.atlas_search.specs.Tables.{head_of, is_used_at};
+ghost use Rattle.atlas_search.specs.Tables.{head_of, is_used_at, CanHold};
 ghost use Rattle.atlas_search.specs.Bands.{list_of};
 ghost use Rattle.atlas_model.specs.Choice.{Options};
 ghost use Rattle.atlas_model.specs.Pixels.{options_of};
@@ -22,7 +22,7 @@ use atlas_search::bands::{BANDS, Scale};
 use atlas_search::cut::{Orientation, exact_size};
 use atlas_search::heap::{push, remove};
 use atlas_search::link::{Link, NO_SLOT, TAG};
-use atlas_search::table::Table;
+use atlas_search::table::{FEW, Table};
 use std::alloc::Allocator;
 
 /// The slot that was listed last, with the number of its list; none once it left it.
@@ -65,8 +65,10 @@ impl Recent {
 // Where `up` tells a list, it begins with `first` from now on.
 fn set_top<A: Allocator>(lists: &mut Table<A>, up: Link, first: Link)
     requires { 4261412864 ≤ up.number
-        → (k : ℕ) × (k < 2704) × (up.number ≡ tag_of k) × (is_used_at lists.old k ≡ true) }
-    ensures { (k : ℕ) → head_of lists.new k ≡ (if up.number == tag_of k then first else head_of lists.old k) }
+        → (k : ℕ) × (k < 2704) × (up.number ≡ tag_of k) × (is_used_at lists.old.heads k ≡ true)
+        × (lists.old.is_grown ≡ false → CanHold lists.old.heads k first) }
+    ensures heads { (k : ℕ) → head_of lists.new.heads k ≡ (if up.number == tag_of k then first else head_of lists.old.heads k) }
+    ensures room { lists.new.is_grown ≡ lists.old.is_grown }
 {
     if up.number >= TAG {
         lists.set_first((up.number - TAG) as usize, first);
@@ -88,14 +90,16 @@ fn set_right(slots: &mut [Slot], at: Link, right: Link)
 pub fn unlist<A: Allocator>(slots: &mut [Slot], lists: &mut Table<A>, recent: &mut Recent, at: Link)
     requires free { (node_at (nodes slots.old) at.number).kind ≡ Free }
     requires exact { AreExact (nodes slots.old) }
-    requires kept { (o : Options) × IsFiledSlot o slots.old lists.old at.number }
+    requires kept { (o : Options) × IsFiledSlot o slots.old lists.old.heads at.number }
     requires short { length slots.old ≤ most_slots }
+    requires few { lists.old.is_grown ≡ false → length slots.old ≤ FEW }
     ensures filed { (o : Options) (unused : Link) (p : Places)
-        → AreFiled o (nodes slots.old) (rings slots.old) lists.old unused p → p.detached at.number ≡ false
-        → AreFiled o (nodes slots.new) (rings slots.new) lists.new unused (unlisted p at.number) }
+        → AreFiled o (nodes slots.old) (rings slots.old) lists.old.heads unused p → p.detached at.number ≡ false
+        → AreFiled o (nodes slots.new) (rings slots.new) lists.new.heads unused (unlisted p at.number) }
     ensures recent { (p : Places) → IsRecent recent.old p.free_lists
         → IsRecent recent.new (unlisted p at.number).free_lists }
     ensures same_nodes { nodes slots.new ≡ nodes slots.old }
+    ensures room { lists.new.is_grown ≡ lists.old.is_grown }
 {
     let up = read_ring(slots, at).up;
     let rest = remove(slots, at);
@@ -114,16 +118,18 @@ pub fn enlist<A: Allocator>(
 )
     requires free { (node_at (nodes slots.old) at.number).kind ≡ Free }
     requires exact { AreExact (nodes slots.old) }
-    requires detached { IsDetachedSlot (options_of options.now) slots.old lists.old recent.old at.number }
+    requires detached { IsDetachedSlot (options_of options.now) slots.old lists.old.heads recent.old at.number }
     requires short { length slots.old ≤ most_slots }
+    requires few { lists.old.is_grown ≡ false → length slots.old ≤ FEW }
     ensures filed { (unused : Link) (p : Places)
-        → AreFiled (options_of options.now) (nodes slots.old) (rings slots.old) lists.old unused p
+        → AreFiled (options_of options.now) (nodes slots.old) (rings slots.old) lists.old.heads unused p
         → IsRecent recent.old p.free_lists → p.detached at.number ≡ true
-        → AreFiled (options_of options.now) (nodes slots.new) (rings slots.new) lists.new unused
+        → AreFiled (options_of options.now) (nodes slots.new) (rings slots.new) lists.new.heads unused
         (listed p (list_of (options_of options.now) (node_sides (node_at (nodes slots.old) at.number))) at.number) }
     ensures recent { (p : Places) → IsRecent recent.new
         (listed p (list_of (options_of options.now) (node_sides (node_at (nodes slots.old) at.number))) at.number).free_lists }
     ensures same_nodes { nodes slots.new ≡ nodes slots.old }
+    ensures room { lists.new.is_grown ≡ lists.old.is_grown }
 {
     let node = read_node(slots, at);
     let place = options.place_for(exact_size(node.area));

@@ -15,6 +15,7 @@ use atlas_model::{AtlasError, Size};
 use atlas_search::best::Found;
 use atlas_search::choice::rounded;
 use atlas_search::search::pick;
+use atlas_search::table::FEW;
 use std::alloc::Allocator;
 
 impl<A: Allocator> Store<A> {
@@ -60,7 +61,13 @@ impl<A: Allocator> Store<A> {
             return Err(AtlasError::Slots);
         }
         let all = (used + needed) as usize;
-        if all > self.slots.capacity() {
+        if all <= self.slots.capacity() {
+            return Ok(());
+        }
+        if all <= FEW {
+            self.slots.reserve_exact(FEW - self.slots.len())?;
+        } else {
+            self.lists.grow()?;
             self.slots.reserve(all - self.slots.len())?;
         }
         Ok(())

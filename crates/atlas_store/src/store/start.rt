@@ -50,7 +50,7 @@ impl<A: Allocator> Store<A> {
     {
         let mut store = Store {
             slots: Vec::with_capacity(alloc, 1)?,
-            lists: Table::new(alloc)?,
+            lists: Table::new(alloc),
             unused: Link::NONE,
             options: Scale::new(options),
             turns: Turns::new(),

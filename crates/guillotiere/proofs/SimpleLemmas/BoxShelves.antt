@@ -19,9 +19,10 @@ use Rattle.atlas_search.specs.Items.{Item, no_item, item_at, item_box, item_side
 use Rattle.atlas_search.specs.Rectangles.{IsSolid}
 use Rattle.atlas_search.specs.Numbers.{occurs, same, no_slot}
 use Rattle.atlas_search.specs.Lookups.{AreListed}
-use Rattle.atlas_search.specs.Tables.{head_of, is_used_at, no_link}
+use Rattle.atlas_search.specs.Tables.{head_of, is_used_at, no_link, CanHold}
 use Rattle.atlas_search.proofs.HeapLemmas.Frames.{heap-frame, heap-longer}
-use Rattle.atlas_search.proofs.SearchLemmas.Heaps.{none-of}
+use Rattle.atlas_search.proofs.SearchLemmas.FewHeads.{holds}
+use Rattle.atlas_search.proofs.SearchLemmas.Heaps.{none-of, top-of}
 use Rattle.atlas_search.proofs.Occurrences.{same-self, same-ne}
 use Rattle.guillotiere.proofs.SimpleLemmas.EntryCounts.{count-of_free, count-of_idle, idle-frame, idle-inside, kept-idle, unused_list-idle}
 use Rattle.guillotiere.proofs.SimpleLemmas.HeapLists.{IsRelisted, relisted}
@@ -333,6 +334,32 @@ module _ (o : Options) (heads : List Link) (es : List Item) (unused : Link) (use
           let empty = none-of fs tag top done.grown few_entries done.heap none in
           omega (arith, done.has x, same-self x, ap (λ (h : Heap). occurs x (members h)) empty)
 
+      -- A list of few entries can be held.
+      pub put-few : length fs ≡ length gs → length es ≤ 8 → (l : Link) → top ≡ l.number → CanHold heads k l
+      put-few same_length small l is_top =
+          let pushed = subst₂ (λ ts m. HasPushed ts fs m top x pushed_heap) is tag_is done in
+          let grown = subst (λ n. IsHeap fs (tag_of k) n pushed.grown) is_top pushed.heap in
+          let t = top-of fs (tag_of k) l.number pushed.grown grown (λ none. put-some same_length (is_top ∙ none)) in
+          let inside : 0 < occurs l.number (members pushed.grown) =
+          omega (arith, ap (λ (h : Heap). occurs l.number (members h)) t.is, same-self l.number) in
+          holds es heads k l fs (tag_of k) pushed.grown small (omega (arith, same_length, ap length is, length-set es x e)) grown
+          (λ j below. (
+            listed.free_lists j,
+            listed.lists j below,
+            λ on. elim (cases_eq l.number x) [
+              | inl same ↦ absurd (omega (arith, subst (λ n. 0 < occurs n (listed.free_lists j)) same on, nowhere j below))
+              | inr ne ↦
+                  sym (listed.own j l.number below on).1
+                  ∙ (listed.own k l.number few (omega (
+                    arith,
+                    inside,
+                    pushed.has l.number,
+                    same-ne l.number x ne,
+                    (listed.lists k few).2 l.number,
+                  ))).1
+            ],
+          ))
+
       pub has-put : KeepsAreas gs fs → (heads' : List Link) → (head_of heads' k).number ≡ top
           → ((j : ℕ) → j ≢ k → head_of heads' j ≡ head_of heads j)
           → AreKept o (record { entries = fs; heads = heads'; unused = unused; used = used })
@@ -382,6 +409,12 @@ module _ (o : Options) (heads : List Link) (bs gs new : List FreeBox) (unused : 
     box-some =
         put-some o heads (map stored_item bs) unused used x k (stored_item (lone_box area)) claimed (exact-width area exact) exact own few
         (map stored_item gs) written-items tag first tag_is first_is (map stored_item new) top (pushes list_heap box-can) areas.long
+
+    pub box-few : length bs ≤ 8 → (l : Link) → top ≡ l.number → CanHold heads k l
+    box-few small =
+        put-few o heads (map stored_item bs) unused used x k (stored_item (lone_box area)) claimed (exact-width area exact) exact own few
+        (map stored_item gs) written-items tag first tag_is first_is (map stored_item new) top (pushes list_heap box-can) areas.long
+        (omega (arith, small, length-map bs stored_item))
 
     pub box-put : (heads' : List Link) → (head_of heads' k).number ≡ top → ((j : ℕ) → j ≢ k → head_of heads' j ≡ head_of heads j)
         → AreKept o (record { entries = map stored_item new; heads = heads'; unused = unused; used = used })

@@ -15,10 +15,11 @@ use Rattle.atlas_search.specs.HeapCalls.{CanRemove, HasRemoved, KeepsAreas}
 use Rattle.atlas_search.specs.Heaps.{Heap, IsHeap, members, tag_of}
 use Rattle.atlas_search.specs.Items.{Item, item_at, item_sides}
 use Rattle.atlas_search.specs.Numbers.{occurs, no_slot}
-use Rattle.atlas_search.specs.Tables.{head_of, is_used_at}
+use Rattle.atlas_search.specs.Tables.{head_of, is_used_at, CanHold}
 use Rattle.atlas_search.proofs.HeapLemmas.Frames.{heap-frame}
 use Rattle.atlas_search.proofs.HeapLemmas.Removing.{top-only}
 use Rattle.atlas_search.proofs.SearchLemmas.BandLaws.{list_of-most}
+use Rattle.atlas_search.proofs.SearchLemmas.FewHeads.{holds}
 use Rattle.atlas_search.proofs.SearchLemmas.Heaps.{listed-some, top-of}
 use Rattle.atlas_search.proofs.Occurrences.{same-self, same-ne}
 use Rattle.guillotiere.proofs.SimpleLemmas.EntryCounts.{count-of_free, count-of_idle, idle-frame, unused_list-idle}
@@ -112,6 +113,28 @@ module _ (o : Options) (v : BoxShelf) (kept : AreKept o v) (x : ℕ) (free : (it
         unused = refl;
         used = refl;
       }
+
+      -- The list of one of few entries can be held.
+      pub unlist-few : length v.entries ≤ 8 → 4261412864 ≤ (item_at v.entries x).up → (l : Link) → rest ≡ l.number
+          → CanHold v.heads own_list l
+      unlist-few small tagged l is_rest = elim (cases_eq l.number no_slot) [
+        | inl none ↦ inl none
+        | inr some ↦
+            let is = subst (λ n. IsHeap fs (tag_of own_list) n removed.less)
+            (cond-true _ rest (head_of v.heads own_list).number (eq-eqb x _ (tagged-first tagged)) ∙ is_rest) removed.heap in
+            let t = top-of fs (tag_of own_list) l.number removed.less is some in
+            let inside : 0 < occurs l.number (members removed.less) =
+            omega (arith, ap (λ (h : Heap). occurs l.number (members h)) t.is, same-self l.number) in
+            let here : 0 < occurs l.number (kept.listed.free_lists own_list) =
+            omega (arith, inside, removed.has l.number, (kept.listed.lists own_list own-few).2 l.number) in
+            holds v.entries v.heads own_list l fs (tag_of own_list) removed.less small areas.long is
+            (λ j below. (
+              kept.listed.free_lists j,
+              kept.listed.lists j below,
+              λ on.
+                  sym (kept.listed.own j l.number below on).1 ∙ (kept.listed.own own_list l.number own-few here).1,
+            ))
+      ]
 
       -- It was the first.
       pub first-unlisted : (heads : List Link) → 4261412864 ≤ (item_at v.entries x).up → (head_of heads own_list).number ≡ rest

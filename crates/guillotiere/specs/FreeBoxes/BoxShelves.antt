@@ -50,7 +50,7 @@ pub record BoxShelf : Type 0 where
 
 abbrev pub box_shelf : {A : Type 0} → FreeBoxes A → BoxShelf
 box_shelf b =
-    record { entries = map stored_item b.entries.items; heads = b.table; unused = b.unused; used = b.used }
+    record { entries = map stored_item b.entries.items; heads = b.table.heads; unused = b.unused; used = b.used }
 
 -- The boxes of the free entries.
 abbrev pub free_item_boxes : List Item → List Box

@@ -1,10 +1,6 @@
 //! The free boxes of the simple allocator, in the lists of a table.
-ghost use Rattle.std.specs.Prelude.{◌≡◌, ◌+◌, ◌<◌, ◌≤◌, ◌∷◌, IfOk, IsOkUnless, OnErr, OnOk, [], length, max, min, true};
+ghost use Rattle.std.specs.Prelude.{◌≡◌, ◌+◌, ◌<◌, ◌≤◌, ◌∷◌, IfOk, IsOkUnless, OnErr, OnOk, [], false, length, max, min, true};
 ghost use Rattle.std.specs.Prelude.{vec_capacity, vec_len};
-ghost use Rattle.guillotiere.specs.FreeBoxes.BoxCalls.{AreFiledBoxes, HasEntriesFor, HasTakenEntries};
-ghost use Rattle.guillotiere.specs.FreeBoxes.BoxCalls.{HasUnlisted, KeepsEntries};
-ghost use Rattle.guillotiere.specs.FreeBoxes.BoxShelves.{AreKept, IsClaimed, box_shelf, free_item_boxes, idle_item};
-ghost use Rattle.guillotiere.specs.FreeBoxes.BoxShelves.{stored_item};
 ghost use Rattle.atlas_model.specs.Boxes.{AreSameBoxes};
 ghost use Rattle.atlas_model.specs.Choice.{AreValid, Options};
 ghost use Rattle.atlas_search.specs.Rectangles.{IsSolid, IsUnsigned};
@@ -19,7 +15,7 @@ use atlas_search::cut::exact_size;
 use atlas_search::heap::{self, Linked};
 use atlas_search::link::{Link, NO_SLOT, TAG};
 use atlas_search::search::Entry;
-use atlas_search::table::Table;
+use atlas_search::table::{FEW, Table};
 use std::alloc::Allocator;
 
 /// A free box, with its links in the heap of its list; or an unused entry, whose rectangle is empty, and the next one.
@@ -75,37 +71,47 @@ impl Linked for FreeBox {
     }
 }
 
-/// Free boxes, each in the list of its size, and entries that are unused; `used` counts the others.
+/// Free boxes, each in the list of its size, and entries that are unused; `used` counts the others. The table has room for the
+/// entries that there is memory for (`room`).
 #[derive(Drop)]
 pub struct FreeBoxes<A: Allocator> {
     pub entries: Vec<FreeBox, A>,
     pub unused: Link,
     pub used: u32,
     pub table: Table<A>,
+    ghost room: { table.is_grown ≡ false → vec_capacity entries ≤ 8 },
 }
 
 /// The most entries: greater numbers are tags of lists, or none.
 pub const MOST_BOXES: u32 = TAG;
 
-// An unused entry before this one.
-fn unused_box(next: Link) -> FreeBox
-    ensures { stored_item result ≡ idle_item next.number }
-{
-    let corner = point2(0, 0);
-    let none = Link { number: 0 };
-    FreeBox {
-        area: Rectangle {
-            min: corner,
-            max: corner,
-        },
-        up: next,
-        left: none,
-        right: none,
-        is_fork: false,
+impl FreeBox {
+    ghost use Rattle.guillotiere.specs.FreeBoxes.BoxShelves.{idle_item, stored_item};
+
+    // An unused entry before this one.
+    fn unused_box(next: Link) -> FreeBox
+        ensures { stored_item result ≡ idle_item next.number }
+    {
+        let corner = point2(0, 0);
+        let none = Link { number: 0 };
+        FreeBox {
+            area: Rectangle {
+                min: corner,
+                max: corner,
+            },
+            up: next,
+            left: none,
+            right: none,
+            is_fork: false,
+        }
     }
 }
 
 impl<A: Allocator> FreeBoxes<A> {
+    ghost use Rattle.guillotiere.specs.FreeBoxes.BoxCalls.{AreFiledBoxes, HasEntriesFor, HasTakenEntries};
+    ghost use Rattle.guillotiere.specs.FreeBoxes.BoxCalls.{HasUnlisted, KeepsEntries};
+    ghost use Rattle.guillotiere.specs.FreeBoxes.BoxShelves.{AreKept, IsClaimed, box_shelf, free_item_boxes};
+
     /// No box, and room for one. The only error is `Memory`.
     pub fn new(alloc: A) -> Result<FreeBoxes<A>, AtlasError>
     where
@@ -117,7 +123,7 @@ impl<A: Allocator> FreeBoxes<A> {
         ensures room { IfOk result (λ it. 0 < vec_capacity it.entries) }
     {
         let entries = Vec::with_capacity(alloc, 1)?;
-        let table = Table::new(alloc)?;
+        let table = Table::new(alloc);
         Ok(FreeBoxes {
             entries,
             unused: Link::NONE,
@@ -162,7 +168,8 @@ impl<A: Allocator> FreeBoxes<A> {
         self.used += 1;
         if at.number == NO_SLOT {
             let number = self.entries.len() as u32;
-            self.entries.push_reserved(unused_box(Link { number: 0 }));
+            self.entries
+                .push_reserved(FreeBox::unused_box(Link { number: 0 }));
             Link { number }
         } else {
             self.unused = self.entries[at.number as usize].up;
@@ -218,7 +225,14 @@ impl<A: Allocator> FreeBoxes<A> {
             if all > MOST_BOXES as usize {
                 return Err(AtlasError::Memory);
             }
-            self.entries.reserve(all - present)?;
+            if all > self.entries.capacity() {
+                if all > FEW {
+                    self.table.grow()?;
+                    self.entries.reserve(all - present)?;
+                } else {
+                    self.entries.reserve_exact(FEW - present)?;
+                }
+            }
         }
         Ok(())
     }
@@ -279,7 +293,7 @@ impl<A: Allocator> FreeBoxes<A> {
         ensures entries { KeepsEntries self.old self.new }
     {
         self.unlist(found.at);
-        self.entries[found.at.number as usize] = unused_box(self.unused);
+        self.entries[found.at.number as usize] = FreeBox::unused_box(self.unused);
         self.unused = found.at;
         self.used -= 1;
     }

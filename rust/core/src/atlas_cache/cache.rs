@@ -7,6 +7,7 @@ mod compacting;
 mod copying;
 mod figures;
 pub mod holding;
+mod inserting;
 mod iter;
 mod repacking;
 mod shrinking;
@@ -16,7 +17,6 @@ mod walking;
 use crate::atlas_cache::cache::holding::{
     grant, join_blank, look_up, oldest_lying, place_of, take_out,
 };
-use crate::atlas_cache::cache::vacating::Vacated;
 use crate::atlas_cache::changes::{CacheChange, Changes};
 use crate::atlas_cache::counts::{count, Counts, NO_COUNTS};
 use crate::atlas_cache::error::OptionsError;
@@ -31,9 +31,6 @@ pub use iter::Iter;
 use wollemigo_support::alloc::{Allocator, Global};
 use wollemigo_support::hash::{BuildHasher, BuildHasherDefault, Hash};
 use wollemigo_support::prelude::Vec;
-
-// So many entries go in the order of use, where that alone makes no room, before those of one box do.
-const OLDEST_FIRST: u32 = 16;
 
 /// Rectangles under keys in the pages of a texture array. Contracts see a `CacheState`: how the cache was made, the
 /// atlas of each page, the entries (the most recently used first), how many numbers they have had, for how many more there
@@ -157,6 +154,8 @@ impl<K: Copy + Eq + Hash, S: BuildHasher, A: Allocator + Copy> TextureCache<K, S
     /// don't suffice (no later frame helps then, but `remove`, `trim` and `clear` do), or `Numbers` only where 4,294,967,295 entries are
     /// still held.
     ///
+    /// What an insertion evicted counts as forced, by fragmentation, where some page had as much free area before it as was asked for.
+    ///
     /// A new key with an empty size, of which a side is 0 or below, becomes a blank entry: `Placed` with a place that is
     /// empty. It takes no room, so no page changes and nothing is evicted for it, nor is it ever evicted for another key.
     /// While entries are in reserve, it is never refused with `Memory`.
@@ -219,69 +218,6 @@ impl<K: Copy + Eq + Hash, S: BuildHasher, A: Allocator + Copy> TextureCache<K, S
     fn add_blank(&mut self, key: K, size: Size) -> Result<Inserted, CacheError> {
         let entry = join_blank(&mut self.entries, key, size, self.frame)?;
         Ok(Inserted::Placed(place_of(entry, &self.rooms.options())))
-    }
-
-    // Inserts a key that isn't held, of a size that can stand on a page.
-    #[inline]
-    fn insert_new(
-        &mut self,
-        key: K,
-        size: Size,
-        asked: Size,
-        changes: &mut Changes<K, A>,
-    ) -> Result<Inserted, CacheError> {
-        let mut from = 0;
-        let mut to = self.rooms.len() as usize;
-        let mut left = OLDEST_FIRST;
-        loop {
-            if let Some(place) = self.add(key, size, asked, from, to)? {
-                return Ok(Inserted::Placed(place));
-            }
-            if let Some(answer) = self.insert_cleared(key, size, asked, left, changes)? {
-                return Ok(answer);
-            }
-            left = left.saturating_sub(1);
-            let page = match self.make_room(asked, changes)? {
-                Some(page) => page,
-                _ => {
-                    return Ok(Inserted::FrameFull);
-                }
-            };
-            // The others have no room still.
-            from = page as usize;
-            to = from + 1;
-        }
-    }
-
-    // Inserts a key that has room on no page, by the eviction of what lies in one box; None where more may go in the order of use, where
-    // a page may still grow or be added, or where memory for the marks of a rehearsal is refused, and then nothing changes.
-    #[inline]
-    fn insert_cleared(
-        &mut self,
-        key: K,
-        size: Size,
-        asked: Size,
-        left: u32,
-        changes: &mut Changes<K, A>,
-    ) -> Result<Option<Inserted>, CacheError> {
-        if left > 0 {
-            return Ok(None);
-        }
-        if !self.rooms.are_full() {
-            return Ok(None);
-        }
-        match self.vacate(asked, changes)? {
-            Vacated::Unmarked => Ok(None),
-            Vacated::Crowded => Ok(Some(Inserted::FrameFull)),
-            Vacated::Room(page) => {
-                let from = page as usize;
-                match self.add(key, size, asked, from, from + 1)? {
-                    Some(place) => Ok(Some(Inserted::Placed(place))),
-                    // There is room on that page.
-                    None => Ok(Some(Inserted::FrameFull)),
-                }
-            }
-        }
     }
 
     // Adds a key on the first page that has room for it, which is one of these, if any has; None if none has.

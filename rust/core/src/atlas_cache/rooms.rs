@@ -9,7 +9,8 @@ mod reserving;
 mod usable;
 
 use crate::atlas_cache::options::CacheOptions;
-use crate::atlas_cache::rooms::asking::{ask, Refusals, NOTHING};
+use crate::atlas_cache::rooms::asking::{ask, changed, Known};
+use crate::atlas_cache::rooms::repacking::area_on;
 use crate::atlas_entries::error::CacheError;
 use wollemigo_support::prelude::Vec;
 
@@ -19,8 +20,9 @@ use wollemigo_support::alloc::{Allocator, Global};
 /// The atlases of the pages of a cache. Contracts see a `RoomsState`: the options, and what each atlas stores.
 pub struct Rooms<A: Allocator + Copy = Global> {
     pages: Vec<AtlasAllocator<A>, A>,
-    // For each page two sizes that it has no room for: those that it refused last, as long as it doesn't change.
-    refused: Vec<Refusals, A>,
+    // For each page two sizes that it has no room for, those that it refused last, as long as it doesn't change; and the area of what is
+    // live on it.
+    known: Vec<Known, A>,
     options: CacheOptions,
 }
 
@@ -93,7 +95,7 @@ impl<A: Allocator + Copy> Rooms<A> {
     pub fn new(alloc: A, options: CacheOptions) -> Self {
         Rooms {
             pages: Vec::new(alloc),
-            refused: Vec::new(alloc),
+            known: Vec::new(alloc),
             options,
         }
     }
@@ -164,7 +166,7 @@ impl<A: Allocator + Copy> Rooms<A> {
         asked: Size,
     ) -> Result<Option<(u32, Allocation)>, CacheError> {
         for page in from..to {
-            match ask(&mut self.pages[page], &mut self.refused[page], asked) {
+            match ask(&mut self.pages[page], &mut self.known[page], asked) {
                 Ok(None) => {}
                 Ok(Some(granted)) => return Ok(Some((number(page, self.options.pages), granted))),
                 Err(error) => return Err(refusal(error)),
@@ -177,8 +179,10 @@ impl<A: Allocator + Copy> Rooms<A> {
     /// memory.
     #[inline]
     pub fn free(&mut self, page: u32, id: AllocId) {
-        let _freed = self.pages[page as usize].deallocate(id);
-        self.refused[page as usize] = NOTHING;
+        let page = page as usize;
+        let area = area_on(&self.pages[page], id);
+        let _freed = self.pages[page].deallocate(id);
+        self.known[page] = changed(self.known[page].live - area);
     }
 
     /// The first page that isn't at its largest grows: the page, and its size from now on, in pixels. Its smaller side,
@@ -197,7 +201,7 @@ impl<A: Allocator + Copy> Rooms<A> {
         if let Err(error) = self.pages[page].grow(size) {
             return Err(refusal(error));
         }
-        self.refused[page] = NOTHING;
+        self.known[page] = changed(self.known[page].live);
         Ok(Some((number(page, self.options.pages), size)))
     }
 
@@ -210,11 +214,11 @@ impl<A: Allocator + Copy> Rooms<A> {
             return Ok(None);
         }
         let alloc = *self.pages.allocator();
-        self.refused.reserve(1)?;
+        self.known.reserve(1)?;
         match AtlasAllocator::with_options(alloc, self.options.page, &self.options.atlas) {
             Ok(page) => {
                 self.pages.push(page)?;
-                self.refused.push_reserved(NOTHING);
+                self.known.push_reserved(changed(0));
                 Ok(Some((number, self.options.page)))
             }
             Err(_) => Err(CacheError::Memory),
@@ -233,7 +237,7 @@ impl<A: Allocator + Copy> Rooms<A> {
             return None;
         }
         self.pages.truncate(last);
-        self.refused.truncate(last);
+        self.known.truncate(last);
         Some(number(last, self.options.pages))
     }
 
@@ -242,7 +246,7 @@ impl<A: Allocator + Copy> Rooms<A> {
     pub fn clear(&mut self) {
         for page in 0..self.pages.len() {
             let _cleared = self.pages[page].clear();
-            self.refused[page] = NOTHING;
+            self.known[page] = changed(0);
         }
     }
 }

@@ -8,7 +8,7 @@ use crate::atlas_search::cells::Cell;
 use crate::atlas_search::cut::exact_size;
 use crate::atlas_search::link::Link;
 use crate::atlas_search::masks::Mask;
-use crate::atlas_search::table::Table;
+use crate::atlas_search::table::{Table, FEW};
 use wollemigo_support::alloc::Allocator;
 
 /// What a search reads of an entry of a list of free boxes.
@@ -82,7 +82,7 @@ fn search_list<A: Allocator, E: Entry>(
     place: Place,
     best: &mut Best,
 ) {
-    show_list(entries, table.head(place), best);
+    show_list(entries, table.stored_head(place), best);
 }
 
 // Shows lists of a row to a search.
@@ -174,6 +174,49 @@ fn search_before<A: Allocator, E: Entry>(
     others.is_empty()
 }
 
+// Shows the lists before a row and a column to a search, where only the first few slots come first in lists.
+#[inline]
+fn search_few<A: Allocator, E: Entry>(
+    entries: &[E],
+    table: &Table<A>,
+    end: usize,
+    best: &mut Best,
+) {
+    for i in 0..FEW {
+        let list = table.list_of_few(i);
+        let row = list / BANDS;
+        let column = list % BANDS;
+        if row.max(column) < end {
+            show_list(entries, table.head(Place { row, column }), best);
+        }
+    }
+}
+
+// The free entry that a request of this rounded size takes, where only the first few slots come first in lists.
+#[cold]
+#[inline(never)]
+fn pick_few<A: Allocator, E: Entry>(
+    entries: &[E],
+    table: &Table<A>,
+    options: &Scale,
+    size: Size,
+) -> Option<Found> {
+    let own = options.place_for(size);
+    let is_large = own.row.max(own.column) >= options.large();
+    let mut least = 0;
+    while least < BANDS {
+        let end = options.end_after(least);
+        let mut best = Best::new(size, is_large);
+        search_few(entries, table, end, &mut best);
+        if let Some(at) = best.found() {
+            let rectangle = entries[at.number as usize].rectangle();
+            return Some(Found { rectangle, at });
+        }
+        least = end;
+    }
+    None
+}
+
 /// The free entry that a request of this rounded size takes.
 #[inline]
 #[must_use]
@@ -204,5 +247,8 @@ pub fn pick<A: Allocator, E: Entry>(
         }
         least = end;
     }
-    None
+    if table.is_grown() {
+        return None;
+    }
+    pick_few(entries, table, options, size)
 }

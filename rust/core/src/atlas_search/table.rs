@@ -12,6 +12,80 @@ use wollemigo_support::prelude::Vec;
 /// How many lists of free slots there are.
 pub const LISTS: usize = 2704;
 
+/// How many slots a table has room for before it has grown.
+pub const FEW: usize = 8;
+
+// In the place of a list: none.
+const NO_LIST: u16 = 2704;
+
+// The first slot of a list, or none, where these are the lists that the first few slots come first in.
+#[cold]
+#[inline(never)]
+fn head_in(only: &[u16; FEW], number: usize) -> Link {
+    for i in 0..FEW {
+        if only[i] as usize == number {
+            return Link { number: i as u32 };
+        }
+    }
+    Link::NONE
+}
+
+// A list begins with this slot, one of the first few, or with none, from now on.
+#[cold]
+#[inline(never)]
+fn set_head_in(only: &mut [u16; FEW], number: usize, first: Link) {
+    for i in 0..FEW {
+        if i == first.number as usize {
+            only[i] = number as u16;
+        } else if only[i] as usize == number {
+            only[i] = NO_LIST;
+        }
+    }
+}
+
+// Writes the heads of the first few slots over those of empty lists, and marks them.
+#[inline]
+fn write_heads<A: Allocator>(heads: &mut Vec<Link, A>, marks: &mut Marks, only: &[u16; FEW]) {
+    let mut i = FEW;
+    while i > 0 {
+        i -= 1;
+        let list = only[i] as usize;
+        if list < LISTS {
+            heads[list] = Link { number: i as u32 };
+            marks.mark(Place {
+                row: list / BANDS,
+                column: list % BANDS,
+            });
+        }
+    }
+}
+
+// Stores the heads and marks of the first few slots, where none are stored.
+#[cold]
+#[inline(never)]
+fn store<A: Allocator>(
+    heads: &mut Vec<Link, A>,
+    marks: &mut Vec<Marks, A>,
+    only: &[u16; FEW],
+) -> Result<(), AllocError> {
+    marks.reserve_exact(1)?;
+    heads.resize(LISTS, Link::NONE)?;
+    let mut own = Marks::none();
+    write_heads(heads, &mut own, only);
+    marks.push_reserved(own);
+    Ok(())
+}
+
+// A copy of the marks that are stored, which are one table's at most.
+#[inline]
+fn copy_marks<A: Allocator + Copy>(marks: &Vec<Marks, A>) -> Result<Vec<Marks, A>, AllocError> {
+    let mut copy = Vec::with_capacity(*marks.allocator(), marks.len())?;
+    if !marks.is_empty() {
+        copy.push_reserved(marks[0].copy());
+    }
+    Ok(copy)
+}
+
 // The lists of a row are empty in these columns from now on.
 #[inline]
 fn blank_row(heads: &mut [Link], row: usize, columns: Mask) {
@@ -30,29 +104,81 @@ fn blank_marked(heads: &mut [Link], marks: &Marks) {
     }
 }
 
-/// The heads of all lists: one block of memory, which takes 10816 bytes. Contracts see the heads alone.
+// A slot comes first in a list, where heads are stored.
+#[inline(always)]
+fn raise_in<A: Allocator>(
+    heads: &mut Vec<Link, A>,
+    marks: &mut Vec<Marks, A>,
+    emptied: usize,
+    at: Place,
+    first: Link,
+) {
+    let list = BANDS * at.row + at.column;
+    let before = heads[list];
+    heads[list] = first;
+    if before.number == NO_SLOT && emptied != list {
+        marks[0].mark(at);
+    }
+}
+
+// Another slot, or none, comes first in a list that has a slot, where heads are stored.
+#[inline(always)]
+fn set_first_in<A: Allocator>(
+    heads: &mut Vec<Link, A>,
+    marks: &mut Vec<Marks, A>,
+    emptied: &mut usize,
+    number: usize,
+    first: Link,
+) {
+    heads[number] = first;
+    if first.number != NO_SLOT {
+        return;
+    }
+    if *emptied != number {
+        let before = *emptied;
+        *emptied = number;
+        if before < LISTS && heads[before].number == NO_SLOT {
+            marks[0].unmark(Place {
+                row: before / BANDS,
+                column: before % BANDS,
+            });
+        }
+    }
+}
+
+/// The heads of all lists, and their marks. A new table takes no memory and has room for the first eight slots; `grow` takes 10,816
+/// bytes and 840, and then there is room for all. Contracts see the heads, and whether the table has grown.
 ///
 /// The list that was emptied last is often the next that gets a slot: so it stays marked until another list is emptied,
 /// and a mark says only that a list may have a slot.
 pub struct Table<A: Allocator> {
+    // The first slot of each list, or nothing before the table has grown.
     heads: Vec<Link, A>,
-    marks: Marks,
+    // The marks, or nothing before the table has grown.
+    marks: Vec<Marks, A>,
+    // Until then the list that each of the first few slots comes first in; NO_LIST if it does in none.
+    only: [u16; FEW],
     // The list that was emptied last, whose mark is kept; LISTS if none was.
     emptied: usize,
 }
 
 impl<A: Allocator> Table<A> {
-    /// A table of empty lists.
+    /// A table of empty lists, with room for the first eight slots. Takes no memory.
     #[inline]
-    pub fn new(alloc: A) -> Result<Table<A>, AllocError> {
-        Ok(Table {
-            heads: Vec::from_elem(alloc, Link::NONE, LISTS)?,
-            marks: Marks::none(),
+    #[must_use]
+    pub fn new(alloc: A) -> Table<A>
+    where
+        A: Copy,
+    {
+        Table {
+            heads: Vec::new(alloc),
+            marks: Vec::new(alloc),
+            only: [NO_LIST; FEW],
             emptied: LISTS,
-        })
+        }
     }
 
-    /// A copy, in new memory of the same allocator.
+    /// A copy, in new memory of the same allocator, which takes as much as the table has.
     #[inline]
     pub fn copy(&self) -> Result<Table<A>, AllocError>
     where
@@ -60,81 +186,128 @@ impl<A: Allocator> Table<A> {
     {
         Ok(Table {
             heads: Vec::from_slice(*self.heads.allocator(), &self.heads)?,
-            marks: self.marks.copy(),
+            marks: copy_marks(&self.marks)?,
+            only: self.only,
             emptied: self.emptied,
         })
+    }
+
+    /// Whether there is room for all slots. Before that only the first eight come first in lists.
+    #[inline]
+    #[must_use]
+    pub fn is_grown(&self) -> bool {
+        !self.heads.is_empty()
+    }
+
+    /// Makes room for all slots. The heads stay.
+    #[inline]
+    pub fn grow(&mut self) -> Result<(), AllocError> {
+        if self.heads.is_empty() {
+            store(&mut self.heads, &mut self.marks, &self.only)?;
+            self.emptied = LISTS;
+        }
+        Ok(())
     }
 
     /// Each list is empty from now on. Writes the heads of marked lists alone.
     #[inline]
     pub fn clear(&mut self) {
-        blank_marked(&mut self.heads, &self.marks);
-        self.marks = Marks::none();
+        if self.marks.is_empty() {
+            self.only = [NO_LIST; FEW];
+            return;
+        }
+        blank_marked(&mut self.heads, &self.marks[0]);
+        self.marks[0] = Marks::none();
         self.emptied = LISTS;
     }
 
     /// The first slot of a list, or none.
-    #[inline]
+    #[inline(always)]
     #[must_use]
     pub fn head(&self, at: Place) -> Link {
-        self.heads[BANDS * at.row + at.column]
+        self.first(BANDS * at.row + at.column)
     }
 
     /// The first slot of the list of this number, or none.
-    #[inline]
+    #[inline(always)]
     #[must_use]
     pub fn first(&self, number: usize) -> Link {
-        self.heads[number]
+        if number < self.heads.len() {
+            self.heads[number]
+        } else {
+            head_in(&self.only, number)
+        }
     }
 
-    /// A slot comes first in a list.
+    /// The first slot of a list, or none, in a table that has grown.
     #[inline]
+    #[must_use]
+    pub fn stored_head(&self, at: Place) -> Link {
+        self.heads[BANDS * at.row + at.column]
+    }
+
+    /// The list that one of the first few slots comes first in, in a table that hasn't grown; LISTS or more if it does in none.
+    #[inline]
+    #[must_use]
+    pub fn list_of_few(&self, i: usize) -> usize {
+        self.only[i] as usize
+    }
+
+    /// A slot comes first in a list. In a table that hasn't grown it is one of the first eight, and comes first in no other list.
+    #[inline(always)]
     pub fn raise(&mut self, at: Place, first: Link) {
         let list = BANDS * at.row + at.column;
-        let before = self.heads[list];
-        self.heads[list] = first;
-        if before.number == NO_SLOT && self.emptied != list {
-            self.marks.mark(at);
+        if list < self.heads.len() {
+            raise_in(&mut self.heads, &mut self.marks, self.emptied, at, first);
+        } else {
+            set_head_in(&mut self.only, list, first);
         }
     }
 
-    /// Another slot, or none, comes first in the list of this number, which has a slot.
-    #[inline]
+    /// Another slot, or none, comes first in the list of this number, which has a slot. In a table that hasn't grown it is
+    /// one of the first eight, and comes first in no other list, or it is none.
+    #[inline(always)]
     pub fn set_first(&mut self, number: usize, first: Link) {
-        self.heads[number] = first;
-        if first.number != NO_SLOT {
-            return;
-        }
-        if self.emptied != number {
-            let before = self.emptied;
-            self.emptied = number;
-            if before < LISTS && self.heads[before].number == NO_SLOT {
-                self.marks.unmark(Place {
-                    row: before / BANDS,
-                    column: before % BANDS,
-                });
-            }
+        if number < self.heads.len() {
+            set_first_in(
+                &mut self.heads,
+                &mut self.marks,
+                &mut self.emptied,
+                number,
+                first,
+            );
+        } else {
+            set_head_in(&mut self.only, number, first);
         }
     }
 
-    /// The columns of a row with lists that may have a slot: each that has one.
+    /// The columns of a row with lists that may have a slot: each that has one. In a table that hasn't grown, none.
     #[inline]
     #[must_use]
     pub fn row(&self, i: usize) -> Mask {
-        self.marks.row(i)
+        if self.marks.is_empty() {
+            return Mask::none();
+        }
+        self.marks[0].row(i)
     }
 
-    /// The rows of a column with lists that may have a slot: each that has one.
+    /// The rows of a column with lists that may have a slot: each that has one. In a table that hasn't grown, none.
     #[inline]
     #[must_use]
     pub fn column(&self, j: usize) -> Mask {
-        self.marks.column(j)
+        if self.marks.is_empty() {
+            return Mask::none();
+        }
+        self.marks[0].column(j)
     }
 
-    /// The rows with a list that may have a slot: each with one that has.
+    /// The rows with a list that may have a slot: each with one that has. In a table that hasn't grown, none.
     #[inline]
     #[must_use]
     pub fn used(&self) -> Mask {
-        self.marks.used()
+        if self.marks.is_empty() {
+            return Mask::none();
+        }
+        self.marks[0].used()
     }
 }

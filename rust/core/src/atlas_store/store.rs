@@ -9,7 +9,7 @@ pub mod views;
 
 use crate::atlas_search::bands::Scale;
 use crate::atlas_search::link::{Link, NO_SLOT};
-use crate::atlas_search::table::Table;
+use crate::atlas_search::table::{Table, FEW};
 use crate::atlas_store::slots::lists::{enlist, give_back, take_slot, unlist, Recent};
 use crate::atlas_store::slots::placing::{place_leaf, Parts, Plan};
 use crate::atlas_store::slots::{join_next, lift, mark_free, read_node, Node, NodeKind, Slot};
@@ -18,7 +18,7 @@ use wollemigo_support::alloc::{AllocError, Allocator};
 use wollemigo_support::prelude::Vec;
 
 /// The slots, the lists that run through them, and the options by which free slots are listed. `turns` counts the
-/// markings, joins and lifts, and is nothing at run time.
+/// markings, joins and lifts, and is nothing at run time. The lists have room for the slots that there is memory for (`room`).
 pub struct Store<A: Allocator> {
     slots: Vec<Slot, A>,
     lists: Table<A>,
@@ -36,7 +36,11 @@ impl<A: Allocator> Store<A> {
         A: Copy,
     {
         let slots = Vec::from_slice(*self.slots.allocator(), &self.slots)?;
-        let lists = self.lists.copy()?;
+        let mut lists = self.lists.copy()?;
+        if slots.capacity() > FEW {
+            // Only where a copy has more memory than it holds.
+            lists.grow()?;
+        }
         Ok(Store {
             slots,
             lists,

@@ -21,7 +21,8 @@ use wollemigo_support::alloc::{Allocator, Global};
 /// It keeps the memory allocator that it was made with. Contracts see what it stores, and for how many entries it has memory;
 /// `simple_state_of` reads its free boxes, its size and its options there.
 ///
-/// The table of its lists of free boxes takes 10,816 bytes on the heap, and each entry for a free box 28 more. Entries
+/// Each entry for a free box takes 32 bytes on the heap. Where a second one is needed there are eight, and the memory for a
+/// ninth one comes with 11,656 for the table of its lists of free boxes, once. Entries
 /// that aren't used any more are used first by later calls, and the room for entries is kept until a start from an atlas. There are at
 /// most 4,261,412,864 entries: where more would be used, `Memory` is the answer.
 pub struct SimpleAtlasAllocator<A: Allocator + Copy = Global> {

@@ -53,6 +53,7 @@ impl<K: Copy + Eq + Hash, S: BuildHasher> TextureCache<K, S> {
             hits: counts.hits,
             misses: counts.misses,
             evictions: counts.evictions,
+            forced: counts.forced,
         }
     }
 

@@ -142,7 +142,7 @@ pub enum CacheChange<K = u64> {
 /// let _ = glyphs.insert('g', size2(10, 20))?; // a hit
 /// assert!(glyphs.get('g').is_some() && glyphs.get('h').is_none()); // a hit and a miss
 /// let counts = glyphs.statistics();
-/// assert_eq!((counts.hits, counts.misses, counts.evictions), (2, 1, 0));
+/// assert_eq!((counts.hits, counts.misses, counts.evictions, counts.forced), (2, 1, 0, 0));
 /// # Ok::<(), guillotiere::cache::CacheError>(())
 /// ```
 #[derive(Copy, Clone, Debug, Default, PartialEq, Eq, Hash)]
@@ -151,8 +151,12 @@ pub struct Counts {
     pub hits: u64,
     /// The calls of `get` that didn't find theirs. `insert` counts none.
     pub misses: u64,
-    /// The entries that were evicted: by an insertion, a trim or a repacking.
+    /// The entries that were evicted: by an insertion, a trim, the end of a batch or a repacking.
     pub evictions: u64,
+    /// Of those that insertions evicted, the ones that fragmentation cost: before that insertion some page had as much free area as
+    /// was asked for, with the padding, in parts that had no room. Where this grows, `repack` or `compact` helps; where `evictions`
+    /// grows without it, the pages are too small for what is drawn.
+    pub forced: u64,
 }
 
 /// Why a call was refused.

@@ -6,6 +6,7 @@ mod bands;
 mod churn;
 mod equal_sides;
 mod errors;
+mod few_slots;
 mod geometry;
 mod pages;
 mod queries;

@@ -21,7 +21,7 @@
 //! | `empty` | `is_empty` | `yes`, `no` |
 //! | `size PAGE` | `page_size` | `W H`, `none` |
 //! | `live PAGE`, `free PAGE`, `unusable PAGE W H` | `live_area`, `free_area`, `unusable_area` | a number of pixels, `none` |
-//! | `statistics` | `statistics` | `hits N misses N evictions N` |
+//! | `statistics` | `statistics` | `hits N misses N evictions N forced N` |
 //!
 //! PLACE is `NUMBER on PAGE at X0 Y0 X1 Y1 inner X0 Y0 X1 Y1`: the entry's number, its page, its rectangle with the padding, and that
 //! without. Before a reply comes a line for each change that the call reported, in order: `added PAGE W H`, `grown PAGE W H`, `evicted KEY
@@ -119,7 +119,8 @@ fn or_refusal<T>(answer: Result<T, CacheError>, words: fn(T) -> String) -> Strin
 
 fn statistics(cache: &Cache) -> String {
     let counts = cache.statistics();
-    format!("hits {} misses {} evictions {}", counts.hits, counts.misses, counts.evictions)
+    let uses = format!("hits {} misses {}", counts.hits, counts.misses);
+    format!("{} evictions {} forced {}", uses, counts.evictions, counts.forced)
 }
 
 // The call of a word with so many numbers behind it; None for every other word.

@@ -2,7 +2,7 @@
 //! goes and what grows, but not where a new key comes: it only looks at where it came.
 
 use wollemigo_core::atlas_cache::entries::DefaultHasher;
-use wollemigo_core::atlas_cache::{CacheChange, CacheOptions, Place, TextureCache};
+use wollemigo_core::atlas_cache::{CacheChange, CacheOptions, Counts, Place, TextureCache};
 use wollemigo_core::guillotiere::{point2, Rectangle, Size};
 use wollemigo_support::alloc::Allocator;
 
@@ -25,6 +25,7 @@ pub struct Plain {
     /// The most keys that there were at once, which is how many numbers they had.
     pub numbers: usize,
     pub frame: u64,
+    pub counts: Counts,
 }
 
 /// Whether a size has no pixel.
@@ -97,6 +98,12 @@ impl Plain {
             pages: Vec::new(),
             numbers: 0,
             frame: 0,
+            counts: Counts {
+                hits: 0,
+                misses: 0,
+                evictions: 0,
+                forced: 0,
+            },
         }
     }
 
@@ -111,9 +118,17 @@ impl Plain {
         Some(self.held[at].place)
     }
 
-    /// A key is used: its place.
+    /// A key is used, a hit, or isn't there, a miss: its place.
     pub fn touch(&mut self, key: u32) -> Option<Place> {
-        let mut used = self.held.remove(self.find(key)?);
+        let at = match self.find(key) {
+            Some(at) => at,
+            None => {
+                self.counts.misses += 1;
+                return None;
+            }
+        };
+        self.counts.hits += 1;
+        let mut used = self.held.remove(at);
         used.frame = self.frame;
         self.held.insert(0, used);
         Some(used.place)
@@ -148,6 +163,7 @@ impl Plain {
             if *change != (CacheChange::Evicted { key, place }) || !self.is_unused(last, frames) {
                 return false;
             }
+            self.counts.evictions += 1;
         }
         match self.held.last() {
             Some(last) => !self.is_unused(*last, frames),
@@ -159,6 +175,7 @@ impl Plain {
     /// first.
     pub fn end_batch(&mut self, keys: usize, told: &[CacheChange<u32>]) -> bool {
         let count = keys.min(self.held.len());
+        self.counts.evictions += count as u64;
         let gone = self.held.drain(..count).map(|held| CacheChange::Evicted {
             key: held.key,
             place: held.place,
@@ -237,6 +254,24 @@ impl Plain {
             && padded(size.height, padding) <= i64::from(largest.height)
     }
 
+    // The pixels of a page, and those of them that its keys take.
+    fn areas(&self, page: usize) -> (u64, u64) {
+        let size = self.pages[page];
+        let on_page = |held: &&Held| held.place.page as usize == page;
+        let taken = self.held.iter().filter(on_page).map(|held| area_of(held.place));
+        (u64::from(size.width as u32) * u64::from(size.height as u32), taken.sum())
+    }
+
+    /// Whether some page has as many free pixels as this size has with its padding.
+    pub fn has_area(&self, size: Size) -> bool {
+        let padding = self.options.padding;
+        let asked = padded(size.width, padding) * padded(size.height, padding);
+        (0..self.pages.len()).any(|page| {
+            let (whole, taken) = self.areas(page);
+            asked <= (whole - taken) as i64
+        })
+    }
+
     // The first page that isn't at its largest, and its size when it has grown.
     fn growth(&self) -> Option<(u32, Size)> {
         let largest = self.options.largest_page;
@@ -278,8 +313,8 @@ impl Plain {
         }
     }
 
-    /// A change that the cache told. Whether it was the next one to be made.
-    pub fn follow(&mut self, change: CacheChange<u32>) -> bool {
+    /// A change that an insertion told, before which some page had the area or none. Whether it was the next one to be made.
+    pub fn follow(&mut self, change: CacheChange<u32>, had_area: bool) -> bool {
         match change {
             CacheChange::PageAdded { page, size } => {
                 let is_right = self.adds(page, size);
@@ -293,6 +328,8 @@ impl Plain {
             }
             CacheChange::Evicted { key, place } => {
                 let is_right = self.evicts(key, place);
+                self.counts.evictions += 1;
+                self.counts.forced += u64::from(had_area);
                 self.remove(key).is_some() && is_right
             }
             CacheChange::Moved { .. } | CacheChange::PageRemoved { .. } => false,
@@ -354,6 +391,15 @@ impl Plain {
             && cache.page_size(count).is_none()
     }
 
+    // Whether a cache tells these areas.
+    fn has_areas<A: Allocator + Copy>(&self, cache: &TextureCache<u32, DefaultHasher, A>) -> bool {
+        (0..self.pages.len()).all(|page| {
+            let (whole, taken) = self.areas(page);
+            let told = (cache.live_area(page as u32), cache.free_area(page as u32));
+            told == (Some(taken), Some(whole - taken))
+        })
+    }
+
     // Whether a number is below those that were given out, and no other key's.
     fn has_own_number(&self, own: Held) -> bool {
         let has_it = |held: &&Held| held.place.number == own.place.number;
@@ -393,7 +439,7 @@ impl Plain {
         rest.len() == 0 && rest.next().is_none() && rest.next().is_none()
     }
 
-    /// Whether a cache has these pages, and holds these keys at these places, in this order, and no others.
+    /// Whether a cache has these pages and counts, and holds these keys at these places, in this order, and no others.
     pub fn is_picture_of<A: Allocator + Copy>(
         &self,
         cache: &TextureCache<u32, DefaultHasher, A>,
@@ -408,5 +454,7 @@ impl Plain {
             && self.has_order(cache)
             && self.has_iterator(cache)
             && self.has_pages(cache)
+            && self.has_areas(cache)
+            && cache.statistics() == self.counts
     }
 }

@@ -57,11 +57,11 @@ impl<A: Allocator + Copy> Played<A> {
         self.plain.frame += 1;
     }
 
-    // The model follows what an insertion told; `false` where that was wrong.
-    fn follow(&mut self) -> bool {
-        let mut is_right = true;
+    // The model follows what an insertion of this size told; `false` where that was wrong.
+    fn follow(&mut self, size: Size) -> bool {
+        let (mut is_right, had_area) = (true, self.plain.has_area(size));
         for change in &self.changes {
-            is_right &= self.plain.follow(*change);
+            is_right &= self.plain.follow(*change, had_area);
         }
         is_right
     }
@@ -101,7 +101,7 @@ impl<A: Allocator + Copy> Played<A> {
         if !self.plain.can_stand(size) {
             return Ok(answer == Ok(Inserted::NeverFits) && self.changes.is_empty());
         }
-        if !self.follow() {
+        if !self.follow(size) {
             return Ok(false);
         }
         match answer? {
@@ -224,10 +224,12 @@ fn options(largest: Size, pages: u32, padding: i32) -> CacheOptions {
     }
 }
 
-// Whether a trace of so many calls agrees with the model.
+// Whether a trace of so many calls agrees with the model, and some evictions in it were forced, but not all.
 fn plays(options: CacheOptions, seed: u64, calls: u32) -> Result<bool, Fail> {
     let mut played = Played::new(Global, options)?;
-    Ok(played.agrees(seed, calls)?)
+    let is_right = played.agrees(seed, calls)?;
+    let counts = played.plain.counts;
+    Ok(is_right && 0 < counts.forced && counts.forced < counts.evictions)
 }
 
 #[test]

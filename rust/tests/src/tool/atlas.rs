@@ -46,16 +46,15 @@ const ROWS: [Row; 6] = [
 
 const GROWTH: &[u8] = b"atlas 100 100\nalloc 100 100\ngrow 150 150\nsize\n";
 
-// Which request for memory is refused, and what these lines are answered then: a new atlas makes two, and the fourth
+// Which request for memory is refused, and what these lines are answered then: a new atlas makes one, and the third
 // one isn't made.
-const GROWTH_REFUSED: [(u32, &[u8]); 4] = [
+const GROWTH_REFUSED: [(u32, &[u8]); 3] = [
     (1, b"refused memory\nno atlas\nno atlas\nno atlas\n"),
-    (2, b"refused memory\nno atlas\nno atlas\nno atlas\n"),
     (
-        3,
+        2,
         b"ok\nid 0 at 0 0 100 100\nrefused memory\nsize 100 100\n",
     ),
-    (4, b"ok\nid 0 at 0 0 100 100\nok\nsize 150 150\n"),
+    (3, b"ok\nid 0 at 0 0 100 100\nok\nsize 150 150\n"),
 ];
 
 #[test]

@@ -138,6 +138,5 @@ fn start_refused(number: u32) -> Option<CallError> {
 fn memory_may_be_refused() {
     let refused = Some(CallError::Refused(AtlasError::Memory));
     assert_eq!(start_refused(1), refused);
-    assert_eq!(start_refused(2), refused);
     assert_eq!(start_refused(0), None);
 }

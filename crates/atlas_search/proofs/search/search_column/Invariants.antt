@@ -8,7 +8,7 @@ use Rattle.atlas_search.proofs.search.search_column.Given as goal
 abbrev pub invariant-loop-row : goal.invariant-loop-row
 invariant-loop-row g l =
     ((k : ℕ) → IsMarked l.left k → IsMarked l.fn.rows k)
-    × ((o : Options) (end : ℕ) (r : Sides) → AreListed o l.table (map g.E.Entry.item l.entries)
+    × ((o : Options) (end : ℕ) (r : Sides) → AreListed o l.table.heads (map g.E.Entry.item l.entries)
     → ((k : ℕ) → IsMarked l.fn.rows k → AreBelow end k l.column)
     → HasAdded o (map g.E.Entry.item l.entries) end r (λ i j. IsInColumn l.column l.fn.rows i j × (has l.left i ≡ false)) l.fn.best l.best)
 

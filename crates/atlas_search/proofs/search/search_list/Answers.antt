@@ -10,13 +10,14 @@ pub show_list-requires : goal.show_list-requires
 show_list-requires g c =
     let es = map g.E.Entry.item c.args.entries.now in
     let any : Sides = record { width = 0; height = 0 } in
-    let list = showable c.requires.listed.0 es 0 any c.args.table.now c.requires.listed.1 c.args.place c.requires.row c.requires.column in
-    (list.0, subst (λ (l : Link). IsListShowable es l.number list.0) (sym c.head.ensures) list.1)
+    let list = showable c.requires.listed.0 es 0 any c.args.table.now.heads c.requires.listed.1 c.args.place c.requires.row
+    c.requires.column in
+    (list.0, subst (λ (l : Link). IsListShowable es l.number list.0) (sym c.stored_head.ensures) list.1)
 
 pub returns : goal.returns
 returns g c o end r a w =
     let es = map g.E.Entry.item c.args.entries.now in
-    let list = showable o es end r c.args.table.now a c.args.place c.requires.row c.requires.column in
-    let shown = c.show_list.ensures list.0 (subst (λ (l : Link). IsListShowable es l.number list.0) (sym c.head.ensures) list.1) in
-    added-list o es end r c.args.table.now a c.args.place c.requires.row c.requires.column w (members list.0) list.2 c.args.best.now
+    let list = showable o es end r c.args.table.now.heads a c.args.place c.requires.row c.requires.column in
+    let shown = c.show_list.ensures list.0 (subst (λ (l : Link). IsListShowable es l.number list.0) (sym c.stored_head.ensures) list.1) in
+    added-list o es end r c.args.table.now.heads a c.args.place c.requires.row c.requires.column w (members list.0) list.2 c.args.best.now
     c.show_list.new.best shown

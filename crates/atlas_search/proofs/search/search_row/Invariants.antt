@@ -8,7 +8,7 @@ use Rattle.atlas_search.proofs.search.search_row.Given as goal
 abbrev pub invariant-loop-column : goal.invariant-loop-column
 invariant-loop-column g l =
     ((k : ℕ) → IsMarked l.left k → IsMarked l.fn.columns k)
-    × ((o : Options) (end : ℕ) (r : Sides) → AreListed o l.table (map g.E.Entry.item l.entries)
+    × ((o : Options) (end : ℕ) (r : Sides) → AreListed o l.table.heads (map g.E.Entry.item l.entries)
     → ((k : ℕ) → IsMarked l.fn.columns k → AreBelow end l.row k)
     → HasAdded o (map g.E.Entry.item l.entries) end r (λ i j. IsInRow l.row l.fn.columns i j × (has l.left j ≡ false)) l.fn.best l.best)
 

@@ -15,7 +15,7 @@ loop-row-preserved g c =
     let inside = l.invariant.0 k c.in-Some.ensures.first.0 in (
       λ j h. l.invariant.0 j (rest-marked l.left c.take_first.new.self k j c.in-Some.ensures.rest h),
       λ o r a.
-          rows-go_on o (map g.E.Entry.item c.args.entries.now) c.args.end r c.args.table.now k c.args.first c.args.rows l.left
+          rows-go_on o (map g.E.Entry.item c.args.entries.now) c.args.end r c.args.table.now.heads k c.args.first c.args.rows l.left
           c.take_first.new.self
           c.below-columns.result c.args.best.now l.best c.search_row.new.best a c.in-Some.ensures.rest
           (λ j past before used. marked-below c.from.result c.below-columns.result c.args.end j c.below-columns.ensures

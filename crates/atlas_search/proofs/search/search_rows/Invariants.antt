@@ -8,7 +8,7 @@ use Rattle.atlas_search.proofs.search.search_rows.Given as goal
 abbrev pub invariant-loop-row : goal.invariant-loop-row
 invariant-loop-row g l =
     ((k : ℕ) → IsMarked l.left k → IsMarked l.fn.rows k)
-    × ((o : Options) (r : Sides) → AreListed o l.table (map g.E.Entry.item l.entries)
+    × ((o : Options) (r : Sides) → AreListed o l.table.heads (map g.E.Entry.item l.entries)
     → HasAdded o (map g.E.Entry.item l.entries) l.end r (λ i j. IsBeyond l.fn.rows l.first l.end i j × (has l.left i ≡ false)) l.fn.best
     l.best)
 

@@ -14,13 +14,13 @@ use Rattle.guillotiere.proofs.simple.cut_picked.Goals as goal
 
 pub guillotine-rest-requires-clause-measurable : goal.guillotine-rest-requires-clause-measurable
 guillotine-rest-requires-clause-measurable g c =
-    let exact = picked-exact (options_of c.args.options.now) c.args.boxes.now.table (map stored_item c.args.boxes.now.entries.items)
+    let exact = picked-exact (options_of c.args.options.now) c.args.boxes.now.table.heads (map stored_item c.args.boxes.now.entries.items)
     c.args.found c.requires.kept.listed c.requires.standing in
     unsigned-measurable c.args.found.rectangle exact.unsigned (search rules) (search rules) (search rules) (search rules)
 
 pub guillotine-rest-requires-clause-fits : goal.guillotine-rest-requires-clause-fits
 guillotine-rest-requires-clause-fits g c =
-    let exact = picked-exact (options_of c.args.options.now) c.args.boxes.now.table (map stored_item c.args.boxes.now.entries.items)
+    let exact = picked-exact (options_of c.args.options.now) c.args.boxes.now.table.heads (map stored_item c.args.boxes.now.entries.items)
     c.args.found c.requires.kept.listed c.requires.standing in
     unsigned-fits c.args.size c.args.found.rectangle exact.unsigned c.requires.positive c.requires.fits
 
@@ -44,7 +44,7 @@ returns-clause-ok g c =
     let o = options_of c.args.options.now in
     let r = c.args.found.rectangle in
     let es = map stored_item c.args.boxes.now.entries.items in
-    let exact = picked-exact o c.args.boxes.now.table es c.args.found c.requires.kept.listed c.requires.standing in
+    let exact = picked-exact o c.args.boxes.now.table.heads es c.args.found c.requires.kept.listed c.requires.standing in
     let took = subst (λ (bs : List Box). AreSameBoxes (box_of r ∷ free_item_boxes (map stored_item c.remove.new.self.entries.items)) bs)
     (ap (λ (v : BoxShelf). free_item_boxes v.entries) c.in_ok-make_room.ensures.same) c.remove.ensures.boxes in
     cut-same o r (sides_of c.args.size) c.guillotine-rest.result (free_item_boxes es)
@@ -56,7 +56,7 @@ pub returns-in_err-make_room-clause-needed : goal.returns-in_err-make_room-claus
 returns-in_err-make_room-clause-needed g c =
     let o = options_of c.args.options.now in
     let bs = c.args.boxes.now.entries.items in
-    let exact = picked-exact o c.args.boxes.now.table (map stored_item bs) c.args.found c.requires.kept.listed c.requires.standing in
+    let exact = picked-exact o c.args.boxes.now.table.heads (map stored_item bs) c.args.found c.requires.kept.listed c.requires.standing in
     let kept = length-kept o (box_of c.args.found.rectangle) (sides_of c.args.size) c.guillotine-rest.result
     (c.guillotine-rest.ensures.boxes (box_of c.args.found.rectangle) exact.unsigned) in
     at_error c.from_residual.result

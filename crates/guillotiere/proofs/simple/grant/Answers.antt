@@ -23,7 +23,7 @@ granted-rectangle-requires-clause-fits g c =
     let es = map stored_item c.args.boxes.now.entries.items in
     let found = c.in-Some-pick.found in
     let standing = subst (λ xs. IsStanding (map stored_item xs) found) c.deref.ensures.value c.in-Some-pick.ensures.standing in
-    let exact = picked-exact o c.args.boxes.now.table es found c.requires.listed standing in
+    let exact = picked-exact o c.args.boxes.now.table.heads es found c.requires.listed standing in
     let r = sides_of c.in-Some.size in
     let all = subst (λ xs. (free : List Box) → AreFreeItems (map stored_item xs) free → IsPick free o r (box_of found.rectangle))
     c.deref.ensures.value c.in-Some-pick.ensures.picked in
@@ -99,7 +99,7 @@ returns-clause-unsigned g c =
     let es = map stored_item c.args.boxes.now.entries.items in
     let found = c.in-Some-pick.found in
     let standing = subst (λ xs. IsStanding (map stored_item xs) found) c.deref.ensures.value c.in-Some-pick.ensures.standing in
-    let exact = picked-exact o c.args.boxes.now.table es found c.requires.listed standing in
+    let exact = picked-exact o c.args.boxes.now.table.heads es found c.requires.listed standing in
     unsigned_of c.granted-rectangle.result (box_at (box_of found.rectangle).min (sides_of c.in-Some.size))
     (c.granted-rectangle.ensures.boxes (box_of found.rectangle) exact.unsigned)
 
@@ -109,7 +109,7 @@ returns-clause-step g c size wide high simple =
     let es = map stored_item c.args.boxes.now.entries.items in
     let found = c.in-Some-pick.found in
     let standing = subst (λ xs. IsStanding (map stored_item xs) found) c.deref.ensures.value c.in-Some-pick.ensures.standing in
-    let exact = picked-exact o c.args.boxes.now.table es found c.requires.listed standing in
+    let exact = picked-exact o c.args.boxes.now.table.heads es found c.requires.listed standing in
     let r = sides_of c.in-Some.size in
     let all = subst (λ xs. (free : List Box) → AreFreeItems (map stored_item xs) free → IsPick free o r (box_of found.rectangle))
     c.deref.ensures.value c.in-Some-pick.ensures.picked in

@@ -31,10 +31,10 @@ impl<A: Allocator + Copy> Rooms<A> {
     pub fn copy(&self) -> Result<Self, AllocError> {
         let alloc = *self.pages.allocator();
         let pages = copied_pages(&self.pages, alloc)?;
-        let refused = Vec::from_slice(alloc, &self.refused)?;
+        let known = Vec::from_slice(alloc, &self.known)?;
         Ok(Rooms {
             pages,
-            refused,
+            known,
             options: self.options,
         })
     }

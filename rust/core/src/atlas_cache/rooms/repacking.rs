@@ -1,11 +1,13 @@
 // Erased from crates/atlas_cache/src/rooms/repacking.rt by rust/erase: don't edit.
 //! A page's rectangles placed anew, and the areas of a page.
 
-use crate::atlas_cache::rooms::asking::NOTHING;
-use crate::atlas_cache::rooms::usable::extent;
+use crate::atlas_cache::rooms::asking::changed;
+use crate::atlas_cache::rooms::usable::{extent, pixels_of};
 use crate::atlas_cache::rooms::{refusal, Rooms};
 use crate::atlas_entries::error::CacheError;
-use crate::guillotiere::{Allocation, AtlasAllocator, Change, ChangeList, Rectangle, Size};
+use crate::guillotiere::{
+    AllocId, Allocation, AtlasAllocator, Change, ChangeList, Rectangle, Size,
+};
 use core::cmp::Reverse;
 use wollemigo_support::alloc::Allocator;
 use wollemigo_support::prelude::Vec;
@@ -14,6 +16,15 @@ use wollemigo_support::prelude::Vec;
 #[inline]
 pub(crate) fn area_of(rectangle: Rectangle) -> u64 {
     extent(rectangle.min.x, rectangle.max.x) * extent(rectangle.min.y, rectangle.max.y)
+}
+
+// How many pixels the rectangle of a live id has.
+#[inline]
+pub(crate) fn area_on<A: Allocator + Copy>(page: &AtlasAllocator<A>, id: AllocId) -> u64 {
+    match page.get(id) {
+        Some(rectangle) => area_of(rectangle),
+        None => 0,
+    }
 }
 
 // Puts rectangles into the order in which they are placed: the largest first. Those of one area keep their order.
@@ -94,24 +105,37 @@ impl<A: Allocator + Copy> Rooms<A> {
         if whole && !list.failures.is_empty() {
             return Ok(None);
         }
+        self.known[page] = changed(placed.allocated_area());
         self.pages[page] = placed;
-        self.refused[page] = NOTHING;
         Ok(Some(list))
     }
 
     /// The area of all live rectangles of a page together, in unit squares. Requires that there is such a page. Takes no
-    /// memory, and one pass over the slots of the page.
+    /// memory, and no walk.
     #[inline]
     #[must_use]
     pub fn live_area(&self, page: u32) -> u64 {
-        self.pages[page as usize].allocated_area()
+        self.known[page as usize].live
     }
 
     /// The area of all free rectangles of a page together, in unit squares. Requires that there is such a page. Takes no
-    /// memory, and one pass over the slots of the page.
+    /// memory, and no walk.
     #[inline]
     #[must_use]
     pub fn free_area(&self, page: u32) -> u64 {
-        self.pages[page as usize].free_area()
+        let atlas = &self.pages[page as usize];
+        pixels_of(atlas.size()) - self.known[page as usize].live
+    }
+
+    /// Whether some page has as much free area as a request of this size has, in however many parts. A step for each page until then.
+    #[inline]
+    pub(crate) fn have_area(&self, asked: Size) -> bool {
+        let pixels = pixels_of(asked);
+        for page in 0..self.len() {
+            if pixels <= self.free_area(page) {
+                return true;
+            }
+        }
+        false
     }
 }

@@ -6,7 +6,7 @@ use crate::atlas_search::bands::{Scale, BANDS};
 use crate::atlas_search::cut::{exact_size, Orientation};
 use crate::atlas_search::heap::{push, remove};
 use crate::atlas_search::link::{Link, NO_SLOT, TAG};
-use crate::atlas_search::table::Table;
+use crate::atlas_search::table::{Table, FEW};
 use crate::atlas_store::slots::{read_node, read_ring, write_node, NodeKind, Slot};
 use wollemigo_support::alloc::Allocator;
 use wollemigo_support::prelude::Vec;

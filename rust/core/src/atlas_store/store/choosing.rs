@@ -5,6 +5,7 @@ use crate::atlas_model::{AtlasError, Size};
 use crate::atlas_search::best::Found;
 use crate::atlas_search::choice::rounded;
 use crate::atlas_search::search::pick;
+use crate::atlas_search::table::FEW;
 use crate::atlas_store::store::Store;
 use wollemigo_support::alloc::Allocator;
 
@@ -33,7 +34,13 @@ impl<A: Allocator> Store<A> {
             return Err(AtlasError::Slots);
         }
         let all = (used + needed) as usize;
-        if all > self.slots.capacity() {
+        if all <= self.slots.capacity() {
+            return Ok(());
+        }
+        if all <= FEW {
+            self.slots.reserve_exact(FEW - self.slots.len())?;
+        } else {
+            self.lists.grow()?;
             self.slots.reserve(all - self.slots.len())?;
         }
         Ok(())

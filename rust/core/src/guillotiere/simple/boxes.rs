@@ -8,7 +8,7 @@ use crate::atlas_search::cut::exact_size;
 use crate::atlas_search::heap::{self, Linked};
 use crate::atlas_search::link::{Link, NO_SLOT, TAG};
 use crate::atlas_search::search::Entry;
-use crate::atlas_search::table::Table;
+use crate::atlas_search::table::{Table, FEW};
 use wollemigo_support::alloc::Allocator;
 use wollemigo_support::prelude::Vec;
 
@@ -64,7 +64,8 @@ impl Linked for FreeBox {
     }
 }
 
-/// Free boxes, each in the list of its size, and entries that are unused; `used` counts the others.
+/// Free boxes, each in the list of its size, and entries that are unused; `used` counts the others. The table has room for the
+/// entries that there is memory for (`room`).
 pub struct FreeBoxes<A: Allocator> {
     pub entries: Vec<FreeBox, A>,
     pub unused: Link,
@@ -75,20 +76,22 @@ pub struct FreeBoxes<A: Allocator> {
 /// The most entries: greater numbers are tags of lists, or none.
 pub const MOST_BOXES: u32 = TAG;
 
-// An unused entry before this one.
-#[inline]
-fn unused_box(next: Link) -> FreeBox {
-    let corner = point2(0, 0);
-    let none = Link { number: 0 };
-    FreeBox {
-        area: Rectangle {
-            min: corner,
-            max: corner,
-        },
-        up: next,
-        left: none,
-        right: none,
-        is_fork: false,
+impl FreeBox {
+    // An unused entry before this one.
+    #[inline]
+    fn unused_box(next: Link) -> FreeBox {
+        let corner = point2(0, 0);
+        let none = Link { number: 0 };
+        FreeBox {
+            area: Rectangle {
+                min: corner,
+                max: corner,
+            },
+            up: next,
+            left: none,
+            right: none,
+            is_fork: false,
+        }
     }
 }
 
@@ -100,7 +103,7 @@ impl<A: Allocator> FreeBoxes<A> {
         A: Copy,
     {
         let entries = Vec::with_capacity(alloc, 1)?;
-        let table = Table::new(alloc)?;
+        let table = Table::new(alloc);
         Ok(FreeBoxes {
             entries,
             unused: Link::NONE,
@@ -136,7 +139,8 @@ impl<A: Allocator> FreeBoxes<A> {
         self.used += 1;
         if at.number == NO_SLOT {
             let number = self.entries.len() as u32;
-            self.entries.push_reserved(unused_box(Link { number: 0 }));
+            self.entries
+                .push_reserved(FreeBox::unused_box(Link { number: 0 }));
             Link { number }
         } else {
             self.unused = self.entries[at.number as usize].up;
@@ -176,7 +180,14 @@ impl<A: Allocator> FreeBoxes<A> {
             if all > MOST_BOXES as usize {
                 return Err(AtlasError::Memory);
             }
-            self.entries.reserve(all - present)?;
+            if all > self.entries.capacity() {
+                if all > FEW {
+                    self.table.grow()?;
+                    self.entries.reserve(all - present)?;
+                } else {
+                    self.entries.reserve_exact(FEW - present)?;
+                }
+            }
         }
         Ok(())
     }
@@ -212,7 +223,7 @@ impl<A: Allocator> FreeBoxes<A> {
     #[inline]
     pub fn remove(&mut self, found: Found) {
         self.unlist(found.at);
-        self.entries[found.at.number as usize] = unused_box(self.unused);
+        self.entries[found.at.number as usize] = FreeBox::unused_box(self.unused);
         self.unused = found.at;
         self.used -= 1;
     }

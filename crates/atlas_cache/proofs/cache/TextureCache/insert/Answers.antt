@@ -1,10 +1,10 @@
-use Rattle.std.proofs.Common.{◌≡◌, ◌+◌, ℤ, ap, false, inl, inr, length, not, refl, subst, sym, true, ◌&&◌, ◌∙◌, ◌∷◌, ◌++◌, [], arith, rules}
+use Rattle.std.proofs.Common.{◌≡◌, ◌+◌, ℤ, ap, false, inl, inr, length, not, refl, subst, sym, true, ◌&&◌, ◌∙◌, ◌∷◌, ◌++◌, [], arith}
 use Rattle.std.proofs.lemmas.Bool.{cases_Bool}
 use Rattle.std.proofs.lemmas.Bool.Decides.{Decides-int_eq}
 use Rattle.std.specs.Ordering.{int_eq}
 use Rattle.std.proofs.Common.{vec_capacity, vec_len}
 use Rattle.atlas_cache.specs.Caches.{CacheState, entries_of}
-use Rattle.atlas_cache.specs.Changes.{Uses}
+use Rattle.atlas_cache.specs.Changes.{but_forced, Uses}
 use Rattle.atlas_entries.specs.Entries.{without_number}
 use Rattle.atlas_entries.specs.declared.entries.Entry.{Entry}
 use Rattle.atlas_cache.proofs.CacheLemmas.{bordered-at, touched-is, used}
@@ -101,30 +101,35 @@ returns-then-not-is_positive-clause-takes g c =
 pub returns-clause-takes : goal.returns-clause-takes
 returns-clause-takes g c =
     inserts_take c.in-Some-asked.asked c.args.key c.args.size c.insert_new.result c.args.changes.now.items
-    c.insert_new.new.changes.items c.args.self.now c.insert_new.new.self c.insert_new.ensures.inserts
+    c.insert_new.new.changes.items c.args.self.now (but_forced c.args.self.now c.insert_new.new.self)
+    c.insert_new.ensures.inserts.does
 
 pub returns-clause-never : goal.returns-clause-never
 returns-clause-never g c =
     let stands = c.in-Some-asked.ensures.0 in (
       λ is. absurd (not_never c.in-Some-asked.asked c.args.key c.args.size c.insert_new.result c.args.changes.now.items
-          c.insert_new.new.changes.items c.args.self.now c.insert_new.new.self c.insert_new.ensures.inserts is),
+          c.insert_new.new.changes.items c.args.self.now (but_forced c.args.self.now c.insert_new.new.self)
+          c.insert_new.ensures.inserts.does is),
       λ new. absurd (new.large (rw (← c.self.view_is) (rw c.options-2.ensures.options at stands))),
     )
 
 pub returns-clause-held : goal.returns-clause-held
 returns-clause-held g c = λ place is.
     absurd (not_held c.in-Some-asked.asked c.args.key c.args.size c.insert_new.result c.args.changes.now.items
-    c.insert_new.new.changes.items c.args.self.now c.insert_new.new.self c.insert_new.ensures.inserts place is)
+    c.insert_new.new.changes.items c.args.self.now (but_forced c.args.self.now c.insert_new.new.self)
+    c.insert_new.ensures.inserts.does place is)
 
 pub returns-clause-hit : goal.returns-clause-hit
 returns-clause-hit g c = λ place is.
     absurd (not_held c.in-Some-asked.asked c.args.key c.args.size c.insert_new.result c.args.changes.now.items
-    c.insert_new.new.changes.items c.args.self.now c.insert_new.new.self c.insert_new.ensures.inserts place is)
+    c.insert_new.new.changes.items c.args.self.now (but_forced c.args.self.now c.insert_new.new.self)
+    c.insert_new.ensures.inserts.does place is)
 
 pub returns-clause-stays : goal.returns-clause-stays
 returns-clause-stays g c =
     inserts_stay c.in-Some-asked.asked c.args.key c.args.size c.insert_new.result c.args.changes.now.items
-    c.insert_new.new.changes.items c.args.self.now c.insert_new.new.self c.insert_new.ensures.inserts
+    c.insert_new.new.changes.items c.args.self.now (but_forced c.args.self.now c.insert_new.new.self)
+    c.insert_new.ensures.inserts.does
 
 pub returns-then-ne-clause-told : goal.returns-then-ne-clause-told
 returns-then-ne-clause-told g c = record {
@@ -193,9 +198,10 @@ returns-in-Some-clause-told g c =
 pub returns-clause-told : goal.returns-clause-told
 returns-clause-told g c =
     let own = own_keys g.K.PartialEq.eq c.self.inside.entries.entries c.prove_kept.ensures.keys in
-    inserts_tell g.K.PartialEq.eq g.met.K.Eq.laws c.in-Some-asked.asked c.args.key c.args.size c.insert_new.result
-    c.args.changes.now.items c.insert_new.new.changes.items c.args.self.now c.insert_new.new.self (rw (← c.self.view_is) own)
-    c.insert_new.ensures.inserts
+    let told = inserts_tell g.K.PartialEq.eq g.met.K.Eq.laws c.in-Some-asked.asked c.args.key c.args.size c.insert_new.result
+    c.args.changes.now.items c.insert_new.new.changes.items c.args.self.now (but_forced c.args.self.now c.insert_new.new.self)
+    (rw (← c.self.view_is) own) c.insert_new.ensures.inserts.does in
+    record { made = told.made; listed = told.listed; shows = told.shows }
 
 pub returns-then-ne-clause-reserves : goal.returns-then-ne-clause-reserves
 returns-then-ne-clause-reserves g c = rw (← c.self.view_is) (λ n had _. (λ is. cc, one_fewer n _ _ had))

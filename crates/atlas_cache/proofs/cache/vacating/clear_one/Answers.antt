@@ -15,7 +15,7 @@ returns-clause-goes g c = λ e at inside.
     let same : c.entry-entry.result ≡ e = cc in
     subst (λ (x : Entry g.row.K.Denot). LetsGo c.args.number x c.args.changes.now.items c.push_reserved.new.self.items c.args.rooms.now
     c.take_out.new.rooms c.args.entries.now c.take_out.new.entries c.args.counts.now
-    (record { hits = c.args.counts.now.hits; misses = c.args.counts.now.misses; evictions = c.count-counts.result })) same
+    (record c.args.counts.now { evictions = c.count-counts.result })) same
     (record {
       without = c.take_out.ensures.without;
       made = c.take_out.ensures.made;

@@ -1,4 +1,3 @@
-use Rattle.std.proofs.Common.{◌≡◌}
 use Rattle.atlas_cache.proofs.cache.vacating.find_vacancy.Goals as goal
 
 pub returns-clause-crowded : goal.returns-clause-crowded

@@ -1,4 +1,4 @@
-use Rattle.std.proofs.Common.{◌<◌, ap, length, arith}
+use Rattle.std.proofs.Common.{◌<◌, ap, length, arith, sym}
 use Rattle.std.proofs.lemmas.List.{length-map}
 use Rattle.guillotiere.specs.States.{live_in}
 use Rattle.guillotiere.proofs.Callers.{page_added}
@@ -6,7 +6,8 @@ use Rattle.atlas_cache.specs.Rooms.{page_sizes, size_of_page}
 use Rattle.atlas_cache.proofs.RoomLemmas.PageGrowth.{joined_less, sizes_joined}
 use Rattle.atlas_cache.proofs.RoomLemmas.KeptPages.{new_is_page, others_stay, rooms_joined}
 use Rattle.atlas_cache.proofs.RoomLemmas.PageReserves.{starts_last}
-use Rattle.atlas_cache.proofs.RoomLemmas.RefusedSizes.{refused_joined}
+use Rattle.atlas_cache.proofs.RoomLemmas.KnownPages.{known_joined}
+use Rattle.atlas_cache.proofs.RoomLemmas.LiveAreas.{live_sum}
 use Rattle.atlas_cache.proofs.rooms.Rooms.add_page.Goals as goal
 
 pub invariant_of-self : goal.invariant_of-self
@@ -23,7 +24,8 @@ invariant_of-self-in-Ok g c =
           (new_is_page c.self.inside.options c.in-Ok.page c.self.invariant.0.usable c.in-Ok.ensures.sound c.in-Ok.ensures.state)
           less c.self.invariant.0),
       rw (c.in_ok-push-in-Ok.ensures.items, c.push_reserved.ensures.items, c.in_ok-reserve.ensures.items)
-          (refused_joined c.self.inside.pages.items c.self.inside.refused.items c.in-Ok.page c.self.invariant.1),
+          (known_joined c.self.inside.pages.items c.self.inside.known.items c.in-Ok.page c.changed.result
+          (c.changed.ensures c.in-Ok.page (sym (ap live_sum c.in-Ok.ensures.state))) c.self.invariant.1),
     )
 
 pub returns-in_ok-push-in-Ok-clause-sizes : goal.returns-in_ok-push-in-Ok-clause-sizes

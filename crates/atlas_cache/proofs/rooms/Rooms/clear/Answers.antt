@@ -1,10 +1,11 @@
-use Rattle.std.proofs.Common.{◌<◌, ◌∙◌, length, refl, inl, inr, ap, arith, slice_set}
+use Rattle.std.proofs.Common.{◌<◌, ◌∙◌, length, refl, inl, inr, ap, arith, slice_set, sum_by, sym}
 use Rattle.std.proofs.lemmas.{List.{length-set}, Option.{slice_get_cases}}
 use Rattle.atlas_cache.specs.Rooms.{page_sizes, RoomsState}
 use Rattle.atlas_cache.proofs.RoomLemmas.KeptPages.{rooms_stay, sizes_stay}
 use Rattle.atlas_cache.proofs.RoomLemmas.PageReserves.{both_used, none_used, page_uses}
 use Rattle.atlas_cache.proofs.RoomLemmas.PageRoom.{one_more_idle}
-use Rattle.atlas_cache.proofs.RoomLemmas.RefusedSizes.{refused_changed}
+use Rattle.atlas_cache.proofs.RoomLemmas.KnownPages.{known_set}
+use Rattle.atlas_cache.proofs.RoomLemmas.LiveAreas.{grant_area}
 use Rattle.atlas_cache.proofs.rooms.Rooms.clear.Goals as goal
 
 pub loop-page-init : goal.loop-page-init
@@ -36,14 +37,15 @@ loop-page-preserved g c =
       options = was.options;
       kept = rooms_stay pages page a cleared.new.self is within c.loop-page.self-inside.options cleared.ensures.sound cleared.ensures.frame
           was.kept;
-      known = refused_changed pages c.loop-page.self-inside.refused.items page cleared.new.self within was.known;
+      known = known_set pages c.loop-page.self-inside.known.items page cleared.new.self c.changed.result within
+          (c.changed.ensures cleared.new.self (sym (ap (sum_by grant_area) cleared.ensures.idle))) was.known;
     }
 
 pub index_mut-requires-in-loop-page : goal.index_mut-requires-in-loop-page
 index_mut-requires-in-loop-page g c =
     let was = c.loop-page.invariant in
     let within : c.loop-page.page < length c.loop-page.self-inside.pages.items = omega (arith, was.same) in
-    omega (arith, within, was.known.as_many, c.loop-page.self-inside.refused.ok.0)
+    omega (arith, within, was.known.as_many, c.loop-page.self-inside.known.ok.0)
 
 pub returns-clause-nothing : goal.returns-clause-nothing
 returns-clause-nothing g c = λ page id. elim (slice_get_cases c.loop-page.self-inside.pages.items page).1 [

@@ -1,7 +1,7 @@
 use Rattle.std.proofs.Common.{◌≡◌, ◌<◌, ℕ, None, length}
 use Rattle.guillotiere.specs.Pages.{rectangle_on}
 use Rattle.atlas_cache.specs.Reserving.{UseAtMost}
-use Rattle.atlas_cache.specs.Rooms.{page_sizes, rooms_of, AreRefused, KeepsRooms}
+use Rattle.atlas_cache.specs.Rooms.{page_sizes, rooms_of, AreKnown, KeepsRooms}
 use Rattle.atlas_cache.proofs.rooms.Rooms.clear.Given as goal
 
 abbrev pub invariant-loop-page : goal.invariant-loop-page
@@ -13,5 +13,5 @@ invariant-loop-page g l =
       slots : UseAtMost 0 l.fn.self.pages l.self-inside.pages.items;
       options : l.self-inside.options ≡ l.fn.self.options;
       kept : KeepsRooms (rooms_of l.self-inside.options l.self-inside.pages.items);
-      known : AreRefused l.self-inside.pages.items l.self-inside.refused.items;
+      known : AreKnown l.self-inside.pages.items l.self-inside.known.items;
     }

@@ -1,7 +1,7 @@
 use Rattle.std.proofs.Common.{◌∙◌, ap}
 use Rattle.atlas_cache.specs.Rooms.{stored_on}
 use Rattle.atlas_cache.proofs.RoomLemmas.StoredPages.{states_same}
-use Rattle.atlas_cache.proofs.RoomLemmas.RefusedSizes.{refused_same}
+use Rattle.atlas_cache.proofs.RoomLemmas.KnownPages.{known_same}
 use Rattle.atlas_cache.proofs.RoomLemmas.PageReserves.{same_rooms}
 use Rattle.atlas_cache.proofs.rooms.Rooms.copy.Goals as goal
 
@@ -12,5 +12,5 @@ invariant_of-result g c =
     let new = c.in_ok-pages.pages.items in
     let states = states_same old new (c.in_ok-pages.ensures ∙ ap stored_on c.deref.ensures.value) in (
       same_rooms old new states r.options c.self.invariant.0,
-      rw (c.in_ok-refused.ensures.items, c.deref-2.ensures.value) (refused_same old new r.refused.items states c.self.invariant.1),
+      rw (c.in_ok-known.ensures.items, c.deref-2.ensures.value) (known_same old new r.known.items states c.self.invariant.1),
     )

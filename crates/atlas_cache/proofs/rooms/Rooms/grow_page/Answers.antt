@@ -6,11 +6,12 @@ use Rattle.guillotiere.specs.Steps.AtlasCall.{Grow}
 use Rattle.guillotiere.specs.Steps.AtlasReply.{Refused}
 use Rattle.guillotiere.specs.Stored.{state_of}
 use Rattle.atlas_entries.specs.declared.error.CacheError.TheVariants.{Slots}
-use Rattle.atlas_cache.specs.Rooms.{page_sizes, rooms_of, AreRefused, KeepsRooms}
+use Rattle.atlas_cache.specs.Rooms.{page_sizes, rooms_of, AreKnown, KeepsRooms}
 use Rattle.atlas_cache.proofs.RoomLemmas.PageGrowth.{grown_less, growth_of, not_all_largest}
 use Rattle.atlas_cache.proofs.RoomLemmas.KeptPages.{nothing_changes, others_kept, page_grows, rectangles_stay, rooms_keep, sizes_set}
 use Rattle.atlas_cache.proofs.RoomLemmas.PageReserves.{first_growth_short, growth_short, none_used, page_steps_on, page_uses}
-use Rattle.atlas_cache.proofs.RoomLemmas.RefusedSizes.{refused_changed}
+use Rattle.atlas_cache.proofs.RoomLemmas.KnownPages.{known_set, known_there}
+use Rattle.atlas_cache.proofs.RoomLemmas.LiveAreas.{live-grown}
 use Rattle.atlas_cache.proofs.rooms.Rooms.grow_page.Goals as goal
 
 pub grown-size-requires-clause-positive : goal.grown-size-requires-clause-positive
@@ -51,7 +52,7 @@ invariant_of-self g c =
     c.index_mut.ensures.value
     growth.within c.in-Err.ensures.refused) in (
       subst (λ ps. KeepsRooms (rooms_of c.self.inside.options ps)) same c.self.invariant.0,
-      subst (λ ps. AreRefused ps c.self.inside.refused.items) same c.self.invariant.1,
+      subst (λ ps. AreKnown ps c.self.inside.known.items) same c.self.invariant.1,
     )
 
 pub returns-in-Err-clause-none : goal.returns-in-Err-clause-none
@@ -116,19 +117,30 @@ invariant_of-self-2 g c =
     (rw c.deref.ensures.value at c.in-Some.ensures.here) c.in-Some.ensures.smaller in
     let pages = c.self.inside.pages.items in
     let a = c.index_mut.result.now in
-    let there = slice_get-get_or pages c.in-Some.page a growth.within ∙ ap Some (sym c.index_mut.ensures.value) in (
+    let there = slice_get-get_or pages c.in-Some.page a growth.within ∙ ap Some (sym c.index_mut.ensures.value) in
+    let live = live-grown (state_of a) (state_of c.grow.new.self) (sides_of c.grown-size.result)
+    (c.self.invariant.0.each c.in-Some.page a there).sound c.in_default-grow.ensures.step in
+    let live_is = (known_there pages c.self.inside.known.items c.in-Some.page a c.index.result.now growth.within c.index_mut.ensures.value
+    c.index.ensures c.self.invariant.1).live in (
       rooms_keep pages c.in-Some.page a c.grow.new.self c.index_mut.ensures.value growth.within c.self.inside.options
           (page_grows c.self.inside.options a c.grow.new.self (sides_of c.grown-size.result) c.grow.ensures.keeps.sound
           c.in_default-grow.ensures.frame (rw c.grown-size.ensures (growth.larger a there)) (rw c.grown-size.ensures growth.grows.within))
           c.self.invariant.0,
-      refused_changed pages c.self.inside.refused.items c.in-Some.page c.grow.new.self growth.within c.self.invariant.1,
+      known_set pages c.self.inside.known.items c.in-Some.page c.grow.new.self c.changed.result growth.within
+          (c.changed.ensures c.grow.new.self (live_is ∙ sym live)) c.self.invariant.1,
     )
+
+pub index-requires : goal.index-requires
+index-requires g c =
+    let growth = growth_of (rooms_of c.self.inside.options c.self.inside.pages.items) c.self.invariant.0 c.in-Some.page c.in-Some.old
+    (rw c.deref.ensures.value at c.in-Some.ensures.here) c.in-Some.ensures.smaller in
+    omega (arith, growth.within, c.self.invariant.1.as_many, c.self.inside.known.ok.0)
 
 pub index_mut-requires-2 : goal.index_mut-requires-2
 index_mut-requires-2 g c =
     let growth = growth_of (rooms_of c.self.inside.options c.self.inside.pages.items) c.self.invariant.0 c.in-Some.page c.in-Some.old
     (rw c.deref.ensures.value at c.in-Some.ensures.here) c.in-Some.ensures.smaller in
-    omega (arith, growth.within, c.self.invariant.1.as_many, c.self.inside.refused.ok.0)
+    omega (arith, growth.within, c.self.invariant.1.as_many, c.self.inside.known.ok.0)
 
 pub returns-clause-first : goal.returns-clause-first
 returns-clause-first g c =

@@ -11,7 +11,7 @@ use Rattle.atlas_cache.specs.Rooms.{rooms_of, KeepsRooms, RoomsState}
 use Rattle.atlas_cache.proofs.RoomLemmas.KeptPages.{none_yet, no_room, nothing_changes, rooms_stay, rounded_as, sizes_stay, takes}
 use Rattle.atlas_cache.proofs.RoomLemmas.PageReserves.{first_short, none_used, page_grants, page_has, page_uses, request_short}
 use Rattle.atlas_cache.proofs.RoomLemmas.PageRoom.{is_at_least}
-use Rattle.atlas_cache.proofs.RoomLemmas.RefusedSizes.{refused_set}
+use Rattle.atlas_cache.proofs.RoomLemmas.KnownPages.{known_set}
 use Rattle.atlas_cache.proofs.rooms.Rooms.place_before.Goals as goal
 
 pub loop-page-init : goal.loop-page-init
@@ -26,20 +26,20 @@ index_mut-requires-in-loop-page g c =
     let was = c.loop-page.invariant in
     let within : c.loop-page.page < length c.loop-page.self-inside.pages.items =
     omega (arith, c.loop-page-test.true, c.requires.inside, ap (λ (r : RoomsState). length r.pages) was.same) in
-    omega (arith, within, was.known.as_many, c.loop-page.self-inside.refused.ok.0)
+    omega (arith, within, was.known.as_many, c.loop-page.self-inside.known.ok.0)
 
 pub ask-requires : goal.ask-requires
 ask-requires g c =
     let was = c.loop-page.invariant in
     let pages = c.loop-page.self-inside.pages.items in
-    let refused = c.loop-page.self-inside.refused.items in
+    let known = c.loop-page.self-inside.known.items in
     let page = c.loop-page.page in
     let a = c.index_mut.result.now in
     let r = c.index_mut-in-loop-page.result.now in
     let within : page < length pages =
     omega (arith, c.loop-page-test.true, c.requires.inside, ap (λ (r : RoomsState). length r.pages) was.same) in
-    was.known.none page a r (slice_get-get_or pages page a within ∙ ap Some (sym c.index_mut.ensures.value))
-    (slice_get-get_or refused page r (omega (arith, within, was.known.as_many)) ∙ ap Some (sym c.index_mut-in-loop-page.ensures.value))
+    was.known.each page a r (slice_get-get_or pages page a within ∙ ap Some (sym c.index_mut.ensures.value))
+    (slice_get-get_or known page r (omega (arith, within, was.known.as_many)) ∙ ap Some (sym c.index_mut-in-loop-page.ensures.value))
 
 pub loop-page-preserved : goal.loop-page-preserved
 loop-page-preserved g c =
@@ -56,7 +56,7 @@ loop-page-preserved g c =
       same = ap (rooms_of c.loop-page.self-inside.options)
           (nothing_changes pages c.loop-page.page a b c.index_mut.ensures.value within same) ∙ was.same;
       none = none_yet c.args.asked c.args.self.now.pages c.loop-page.page (rw (← was.same) none) was.none;
-      known = refused_set pages c.loop-page.self-inside.refused.items c.loop-page.page b c.ask.new.refused within c.ask.ensures.known
+      known = known_set pages c.loop-page.self-inside.known.items c.loop-page.page b c.ask.new.known within c.ask.ensures.known
           was.known;
     }
 
@@ -69,7 +69,7 @@ invariant_of-self-in-Ok-Some g c =
       rooms_stay pages c.loop-page.page c.index_mut.result.now c.ask.new.page c.index_mut.ensures.value within
           c.loop-page.self-inside.options c.ask.ensures.sound c.ask.ensures.frame
           (subst KeepsRooms (c.self.view_is ∙ sym was.same) c.self.invariant.0),
-      refused_set pages c.loop-page.self-inside.refused.items c.loop-page.page c.ask.new.page c.ask.new.refused within c.ask.ensures.known
+      known_set pages c.loop-page.self-inside.known.items c.loop-page.page c.ask.new.page c.ask.new.known within c.ask.ensures.known
           was.known,
     )
 
@@ -122,7 +122,7 @@ invariant_of-self-in-Err g c =
       rooms_stay pages c.loop-page.page c.index_mut.result.now c.ask.new.page c.index_mut.ensures.value within
           c.loop-page.self-inside.options c.ask.ensures.sound c.ask.ensures.frame
           (subst KeepsRooms (c.self.view_is ∙ sym was.same) c.self.invariant.0),
-      refused_set pages c.loop-page.self-inside.refused.items c.loop-page.page c.ask.new.page c.ask.new.refused within c.ask.ensures.known
+      known_set pages c.loop-page.self-inside.known.items c.loop-page.page c.ask.new.page c.ask.new.known within c.ask.ensures.known
           was.known,
     )
 

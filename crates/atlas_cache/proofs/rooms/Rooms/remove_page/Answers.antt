@@ -2,7 +2,7 @@ use Rattle.std.proofs.Common.{◌≡◌, ◌+◌, ◌-◌, ◌∙◌, ◌∷◌,
 use Rattle.std.proofs.lemmas.Bool.{eqb-true}
 use Rattle.atlas_cache.specs.Rooms.{rooms_of, KeepsRooms}
 use Rattle.atlas_cache.proofs.ShrinkLemmas.{drops_last, in_use, last_number, rooms_left}
-use Rattle.atlas_cache.proofs.RoomLemmas.RefusedSizes.{refused_taken}
+use Rattle.atlas_cache.proofs.RoomLemmas.KnownPages.{known_taken}
 use Rattle.atlas_cache.proofs.rooms.Rooms.remove_page.Goals as goal
 
 pub returns-then-is_empty-clause-used : goal.returns-then-is_empty-clause-used
@@ -34,7 +34,7 @@ invariant_of-self g c =
       rooms_left c.self.inside.options c.truncate.new.self.items drops.last
           (subst (λ ps. KeepsRooms (rooms_of c.self.inside.options ps)) drops.was c.self.invariant.0),
       rw (c.truncate.ensures.items, c.truncate-2.ensures.items)
-          (refused_taken (c.len-last.result - 1) c.self.inside.pages.items c.self.inside.refused.items c.self.invariant.1),
+          (known_taken (c.len-last.result - 1) c.self.inside.pages.items c.self.inside.known.items c.self.invariant.1),
     )
 
 pub returns-clause-drops : goal.returns-clause-drops

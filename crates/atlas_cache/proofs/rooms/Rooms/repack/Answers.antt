@@ -8,7 +8,7 @@ use Rattle.atlas_cache.proofs.ReadyLemmas.{error_is}
 use Rattle.atlas_cache.proofs.RoomLemmas.KeptPages.{rooms_stay, sizes_stay}
 use Rattle.atlas_cache.proofs.RoomLemmas.RepackedPages.{frame_here, named_permuted, named_there, page_placed, page_repacks, placing_tells}
 use Rattle.atlas_cache.proofs.RoomLemmas.RepackedPages.{refits_here, starts_alike, state_here}
-use Rattle.atlas_cache.proofs.RoomLemmas.RefusedSizes.{refused_changed}
+use Rattle.atlas_cache.proofs.RoomLemmas.KnownPages.{known_set}
 use Rattle.atlas_cache.proofs.ShrinkLemmas.{last_number}
 use Rattle.atlas_cache.proofs.rooms.Rooms.repack.Goals.{else-whole-via-then-whole+else-not-is_empty, else-whole-via-else-whole}
 use Rattle.atlas_cache.proofs.rooms.Rooms.repack.Goals as goal
@@ -34,13 +34,14 @@ invariant_of-self g c =
           (frame_here (state_of a) (state_of c.in-Ok.placed) (state_of b) c.sort_by_area.new.held.items c.in_ok-list.list
           c.size-size.ensures.sound c.prove_sound.ensures.sound start c.in_ok-list.ensures.refits)
           c.self.invariant.0,
-      refused_changed pages c.self.inside.refused.items c.args.page b within c.self.invariant.1,
+      known_set pages c.self.inside.known.items c.args.page b c.changed.result within
+          (c.changed.ensures b c.allocated_area.ensures.area) c.self.invariant.1,
     )
 
 pub index_mut-requires-2 : goal.index_mut-requires-2
 index_mut-requires-2 g c =
     let within : c.args.page < length c.self.inside.pages.items = rw (← c.self.view_is) at c.requires.page in
-    omega (arith, within, c.self.invariant.1.as_many, c.self.inside.refused.ok.0)
+    omega (arith, within, c.self.invariant.1.as_many, c.self.inside.known.ok.0)
 
 pub returns-clause-repacks : goal.returns-clause-repacks
 returns-clause-repacks g c = λ names.

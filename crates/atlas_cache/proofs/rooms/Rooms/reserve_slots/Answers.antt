@@ -7,7 +7,7 @@ use Rattle.atlas_entries.specs.declared.error.CacheError.TheVariants.{Memory, Sl
 use Rattle.atlas_cache.specs.Rooms.{RoomsState}
 use Rattle.atlas_cache.proofs.RoomLemmas.KeptPages.{nothing_changes, others_kept}
 use Rattle.atlas_cache.proofs.RoomLemmas.PageReserves.{both_used, none_used, one_more_page, page_states, page_uses, holds_there, same_rooms}
-use Rattle.atlas_cache.proofs.RoomLemmas.RefusedSizes.{refused_same}
+use Rattle.atlas_cache.proofs.RoomLemmas.KnownPages.{known_same}
 use Rattle.atlas_cache.proofs.rooms.Rooms.reserve_slots.Goals as goal
 
 pub loop-page-init : goal.loop-page-init
@@ -57,7 +57,7 @@ loop-page-preserved g c =
             capacity = c.reserve.ensures.capacity;
           }));
       kept = same_rooms pages (slice_set pages page b) states c.loop-page.self-inside.options was.kept;
-      known = refused_same pages (slice_set pages page b) c.loop-page.self-inside.refused.items states was.known;
+      known = known_same pages (slice_set pages page b) c.loop-page.self-inside.known.items states was.known;
     }
 
 pub invariant_of-self-in-Err : goal.invariant_of-self-in-Err
@@ -69,7 +69,7 @@ invariant_of-self-in-Err g c =
     let within : page < length pages = omega (arith, was.same) in
     let states = page_states pages page c.index_mut.result.now b c.index_mut.ensures.value within c.reserve.ensures.state in (
       same_rooms pages (slice_set pages page b) states c.loop-page.self-inside.options was.kept,
-      refused_same pages (slice_set pages page b) c.loop-page.self-inside.refused.items states was.known,
+      known_same pages (slice_set pages page b) c.loop-page.self-inside.known.items states was.known,
     )
 
 pub returns-in-Err-clause-slots : goal.returns-in-Err-clause-slots

@@ -3,7 +3,7 @@ use Rattle.guillotiere.specs.Reserves.{HasReserve}
 use Rattle.guillotiere.specs.States.{used_in}
 use Rattle.guillotiere.specs.Stored.{AtlasValue, state_of}
 use Rattle.atlas_cache.specs.Reserving.{UseAtMost}
-use Rattle.atlas_cache.specs.Rooms.{rooms_of, AreRefused, KeepsRooms}
+use Rattle.atlas_cache.specs.Rooms.{rooms_of, AreKnown, KeepsRooms}
 use Rattle.atlas_cache.proofs.rooms.Rooms.reserve_slots.Given as goal
 
 abbrev pub invariant-loop-page : goal.invariant-loop-page
@@ -19,5 +19,5 @@ invariant-loop-page g l =
       states : map state_of l.self-inside.pages.items ≡ map state_of l.fn.self.pages;
       slots : UseAtMost 0 l.fn.self.pages l.self-inside.pages.items;
       kept : KeepsRooms (rooms_of l.self-inside.options l.self-inside.pages.items);
-      known : AreRefused l.self-inside.pages.items l.self-inside.refused.items;
+      known : AreKnown l.self-inside.pages.items l.self-inside.known.items;
     }

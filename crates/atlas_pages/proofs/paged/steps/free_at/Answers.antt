@@ -1,5 +1,5 @@
-use Rattle.std.proofs.Common.{◌≡◌, length, OnErr}
-use Rattle.guillotiere.specs.Pages.{LeavesNoBoxOn}
+use Rattle.std.proofs.Common.{◌≡◌, ◌↔◌, length, subst, IsSome, Ok, OnErr}
+use Rattle.guillotiere.specs.Pages.{rectangle_on, LeavesNoBoxOn}
 use Rattle.guillotiere.specs.Replies.{done_reply}
 use Rattle.guillotiere.specs.Steps.AtlasCall.{Deallocate}
 use Rattle.atlas_pages.specs.Paged.{StepsAt}
@@ -25,3 +25,8 @@ pub returns-clause-length : goal.returns-clause-length
 returns-clause-length g c =
     written c.args.pages.now _ _ c.deref_mut.ensures.value c.free_on.ensures.length
     (λ old new. length new ≡ length old) c.free_on.ensures.length
+
+pub returns-clause-ok : goal.returns-clause-ok
+returns-clause-ok g c =
+    subst (λ pages. (c.free_on.result ≡ Ok tt) ↔ IsSome (rectangle_on pages c.args.page c.args.id)) c.deref_mut.ensures.value
+    c.free_on.ensures.ok

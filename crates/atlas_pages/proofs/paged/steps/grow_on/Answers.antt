@@ -1,6 +1,9 @@
 use Rattle.std.proofs.Common.{arith}
-use Rattle.atlas_pages.proofs.PagedLemmas.{growth_fault, growth_refused, growth_steps, page_grows}
+use Rattle.atlas_pages.proofs.PagedLemmas.{growth_fault, growth_refused, growth_steps, holds_on_ok, page_grows}
 use Rattle.atlas_pages.proofs.paged.steps.grow_on.Goals as goal
+
+pub returns-clause-page : goal.returns-clause-page
+returns-clause-page g c = holds_on_ok c.grow_page.result _ (omega (arith, c.if-page-pages.false))
 
 pub returns-clause-step : goal.returns-clause-step
 returns-clause-step g c =

@@ -1,9 +1,10 @@
-use Rattle.std.proofs.Common.{arith}
-use Rattle.atlas_search.proofs.SearchLemmas.TableHeads.{blanked-table}
+use Rattle.std.proofs.Common.{◌≡◌, rules}
+use Rattle.atlas_search.proofs.SearchLemmas.FewHeads.{few-blank, no-heads, none-long}
 use Rattle.atlas_search.proofs.table.Table.clear.Goals as goal
 
-pub invariant_of-self : goal.invariant_of-self
-invariant_of-self g c =
-    blanked-table c.blank_marked.new.heads _ c.none-self-inside.result c.self.inside.heads.len
-    (omega (arith, c.self.invariant.count, c.self.inside.heads.ok)) c.blank_marked.ensures.long c.blank_marked.ensures.blank
-    c.none-self-inside.ensures
+pub returns-then-is_empty-clause-blank : goal.returns-then-is_empty-clause-blank
+returns-then-is_empty-clause-blank g c =
+    let t = c.self.inside in
+    let zero : t.marks.len ≡ 0 = search rules in
+    few-blank t.heads.items
+    (no-heads t.heads.items t.marks.items t.emptied c.self.invariant.1 (none-long t.marks.items t.marks.len t.marks.ok.0 zero))

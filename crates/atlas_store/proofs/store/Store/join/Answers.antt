@@ -9,7 +9,7 @@ use Rattle.atlas_store.proofs.StoreLemmas.StoreSteps.{AreSlots, GivesBack, joine
 use Rattle.atlas_store.proofs.store.Store.join.Given as given
 use Rattle.atlas_store.proofs.store.Store.join.Goals as goal
 
-module _ (g : given.Over) (c : goal.After-tick g) where
+module _ (g : given.Over) (c : goal.After-self-3-1 g) where
   abbrev own : List Slot
   own = c.args.self.now.slots.items
 

@@ -13,7 +13,7 @@ use Rattle.atlas_store.proofs.StoreLemmas.StoreSteps.{AreSlots, GivesBack, lifte
 use Rattle.atlas_store.proofs.store.Store.lift.Given as given
 use Rattle.atlas_store.proofs.store.Store.lift.Goals as goal
 
-module _ (g : given.Over) (c : goal.After-tick g) where
+module _ (g : given.Over) (c : goal.After-self-3-1 g) where
   abbrev own : List Slot
   own = c.args.self.now.slots.items
 

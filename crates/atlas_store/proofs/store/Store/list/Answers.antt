@@ -1,4 +1,4 @@
-use Rattle.std.proofs.Common.{◌≡◌, false, refl}
+use Rattle.std.proofs.Common.{◌≡◌, false, refl, arith}
 use Rattle.atlas_model.specs.Pixels.{options_of}
 use Rattle.atlas_store.specs.Slots.{nodes, node_at}
 use Rattle.atlas_search.specs.Bands.{list_of}
@@ -17,6 +17,10 @@ enlist-requires-clause-exact g c =
     let leaf = c.requires.1 in
     all-exact (shelf_of c.args.self.now) c.deref_mut.result.now c.requires.0 c.deref_mut.ensures.value leaf.holds
 
+pub enlist-requires-clause-few : goal.enlist-requires-clause-few
+enlist-requires-clause-few g c small =
+    omega (arith, c.args.self.now.room small, c.deref_mut.ensures.len, c.args.self.now.slots.ok)
+
 pub returns : goal.returns
 returns g c =
     let slots = are-slots c.args.self.now c.deref_mut.ensures.value c.deref_mut.ensures.len c.enlist.auto.slots in
@@ -26,7 +30,8 @@ returns g c =
           let sides = node_sides (node_at (nodes c.deref_mut.result.now) c.args.at.number) in
           let free_lists : _ = lists_with h.free_lists (list_of (options_of c.args.self.now.options) sides) c.args.at.number in (
             free_lists,
-            listed-holds (shelf_of c.args.self.now) c.deref_mut.result.now c.enlist.new.slots _ c.enlist.new.lists c.enlist.new.recent h
+            listed-holds (shelf_of c.args.self.now) c.deref_mut.result.now c.enlist.new.slots _ c.enlist.new.lists.heads
+                c.enlist.new.recent h
                 free_lists
                 (with_mark h.detached c.args.at.number false) slots c.enlist.ensures.same_nodes
                 (λ filed. c.enlist.ensures.filed c.args.self.now.unused (places_of (λ i. 0) h) filed leaf.holds.is_recent leaf.detached)

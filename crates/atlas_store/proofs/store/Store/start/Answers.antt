@@ -13,7 +13,7 @@ list-requires g c =
       detached_holding (sides_of c.args.size),
       whole_leaf _ c.args.size (record {
         slots = search rules;
-        lists = c.clear-2.ensures;
+        lists = c.clear-2.ensures.blank;
         unused = refl;
         recent = refl;
         valid =
@@ -31,7 +31,7 @@ returns g c =
             c.list.ensures.kept (detached_holding (sides_of c.args.size))
             (whole_leaf _ c.args.size (record {
               slots = search rules;
-              lists = c.clear-2.ensures;
+              lists = c.clear-2.ensures.blank;
               unused = refl;
               recent = refl;
               valid =

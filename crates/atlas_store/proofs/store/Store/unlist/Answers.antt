@@ -1,4 +1,4 @@
-use Rattle.std.proofs.Common.{◌≡◌, true, refl}
+use Rattle.std.proofs.Common.{◌≡◌, true, refl, arith}
 use Rattle.atlas_model.specs.Pixels.{options_of}
 use Rattle.atlas_store.specs.Slots.Links.{lists_without, with_mark}
 use Rattle.atlas_store.specs.Slots.{nodes}
@@ -13,6 +13,10 @@ pub unlist-requires-clause-exact : goal.unlist-requires-clause-exact
 unlist-requires-clause-exact g c =
     all-exact (shelf_of c.args.self.now) c.deref_mut.result.now c.requires.ready.0 c.deref_mut.ensures.value c.requires.ready.1
 
+pub unlist-requires-clause-few : goal.unlist-requires-clause-few
+unlist-requires-clause-few g c small =
+    omega (arith, c.args.self.now.room small, c.deref_mut.ensures.len, c.args.self.now.slots.ok)
+
 pub returns : goal.returns
 returns g c =
     let slots = are-slots c.args.self.now c.deref_mut.ensures.value c.deref_mut.ensures.len c.unlist.auto.slots in
@@ -20,7 +24,7 @@ returns g c =
     record {
       kept = λ h holds listed. (
         lists_without h.free_lists c.args.at.number,
-        listed-holds (shelf_of c.args.self.now) c.deref_mut.result.now c.unlist.new.slots _ c.unlist.new.lists c.unlist.new.recent h
+        listed-holds (shelf_of c.args.self.now) c.deref_mut.result.now c.unlist.new.slots _ c.unlist.new.lists.heads c.unlist.new.recent h
             (lists_without h.free_lists c.args.at.number) (with_mark h.detached c.args.at.number true) slots c.unlist.ensures.same_nodes
             (λ filed. c.unlist.ensures.filed (options_of c.args.self.now.options) c.args.self.now.unused (places_of (λ i. 0) h) filed
             listed)

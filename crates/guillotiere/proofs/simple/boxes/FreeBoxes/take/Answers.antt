@@ -11,7 +11,7 @@ use Rattle.guillotiere.proofs.simple.boxes.FreeBoxes.take.Goals as goal
 pub index-requires : goal.index-requires
 index-requires g c =
     let t = c.requires.kept in
-    let l = unused-inside t.0 c.args.self.now.table (map stored_item c.args.self.now.entries.items) c.args.self.now.unused
+    let l = unused-inside t.0 c.args.self.now.table.heads (map stored_item c.args.self.now.entries.items) c.args.self.now.unused
     c.args.self.now.used c.if-at.false t.1 in
     omega (arith, l, length-map c.args.self.now.entries.items stored_item, c.args.self.now.entries.ok)
 
@@ -24,7 +24,7 @@ push_reserved-requires g c =
 pub returns-then-at-clause-taken : goal.returns-then-at-clause-taken
 returns-then-at-clause-taken g c o kept =
     let bs = c.args.self.now.entries.items in
-    let heads = c.args.self.now.table in
+    let heads = c.args.self.now.table.heads in
     let unused = c.args.self.now.unused in
     let used = c.args.self.now.used in
     let all = used-all o (box_shelf c.args.self.now) kept c.if-at.true in
@@ -66,10 +66,11 @@ returns-else-at-clause-taken g c o kept =
     let inside : c.args.self.now.unused.number < length bs =
     omega (
       arith,
-      unused-inside o c.args.self.now.table (map stored_item bs) c.args.self.now.unused c.args.self.now.used c.if-at.false kept,
+      unused-inside o c.args.self.now.table.heads (map stored_item bs) c.args.self.now.unused c.args.self.now.used c.if-at.false kept,
       length-map bs stored_item,
     ) in
-    taken-again o c.args.self.now.table (map stored_item bs) c.args.self.now.unused c.index.result.now.up c.args.self.now.used c.if-at.false
+    taken-again o c.args.self.now.table.heads (map stored_item bs) c.args.self.now.unused c.index.result.now.up c.args.self.now.used
+    c.if-at.false
     (ap (λ (e : Item). e.up) (read-item bs c.args.self.now.unused.number c.index.result.now inside c.index.ensures)) kept
 
 pub returns-else-at-clause-entries : goal.returns-else-at-clause-entries

@@ -3,7 +3,7 @@ use Rattle.atlas_cache.specs.Caches.{entry_for, steps_left, HasNoPageFor, IsFull
 use Rattle.atlas_cache.specs.Reserving.{room_in, HasReserves, UseAtMost}
 use Rattle.atlas_cache.specs.Rooms.{HasRoomOnlyAmong}
 use Rattle.atlas_cache.proofs.LoopLemmas.{Reached}
-use Rattle.atlas_cache.proofs.cache.TextureCache.insert_new.Given as goal
+use Rattle.atlas_cache.proofs.cache.TextureCache.insert_uncounted.Given as goal
 
 abbrev pub invariant-loop-place : goal.invariant-loop-place
 invariant-loop-place g l =
