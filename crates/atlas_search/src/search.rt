@@ -283,7 +283,7 @@ fn search_few<A: Allocator, E: Entry>(entries: &[E], table: &Table<A>, end: usiz
     ensures { (o : Options) (r : Sides) → AreListed o table.now.heads (map E.item entries.now)
         → HasAdded o (map E.item entries.now) end r (AreBelow end) best.old best.new }
 {
-    for i in 0..FEW {
+    for i in 0..FEW.min(entries.len()) {
         let list = table.list_of_few(i);
         let row = list / BANDS;
         let column = list % BANDS;
@@ -314,8 +314,9 @@ fn pick_few<A: Allocator, E: Entry>(
     ensures standing { IfSome result (IsStanding (map E.item entries.now)) }
 {
     let own = options.place_for(size);
-    let is_large = own.row.max(own.column) >= options.large();
-    let mut least = 0;
+    let far = own.row.max(own.column);
+    let is_large = far >= options.large();
+    let mut least = far;
     while least < BANDS {
         let end = options.end_after(least);
         let mut best = Best::new(size, is_large);

@@ -1,20 +1,24 @@
 -- What a search knows once it was shown the lists of the first few slots.
 use Rattle.std.proofs.Common.{ℕ, ◌≡◌, ◌+◌, ◌*◌, ◌/◌, ◌%◌, ◌<◌, ◌≤◌, ◌==◌, inl, inr, Bool, true, false, ◌&&◌, []}
-use Rattle.std.proofs.Common.{List, nat_le, max, refl, ap, subst, ◌∙◌, arith}
-use Rattle.std.proofs.lemmas.Bool.{cases_eq}
+use Rattle.std.proofs.Common.{List, length, nat_le, max, min, refl, ap, sym, subst, ◌∙◌, arith}
+use Rattle.std.proofs.lemmas.Bool.{cases_eq, cases_lt, true≢false}
 use Rattle.atlas_model.specs.Boxes.{IsPositive, Sides}
 use Rattle.atlas_model.specs.Choice.{AreValid, Options, class_of}
 use Rattle.atlas_search.specs.declared.best.Best.{Best}
+use Rattle.atlas_search.specs.declared.bands.Place.{Place}
 use Rattle.atlas_search.specs.declared.link.Link.{Link}
 use Rattle.atlas_search.specs.declared.masks.Mask.{Mask}
 use Rattle.atlas_search.specs.Bands.{band_of, start_of}
 use Rattle.atlas_search.specs.Bests.{HasSeen}
+use Rattle.atlas_search.specs.Heaps.{tag_of}
 use Rattle.atlas_search.specs.Items.{Item}
-use Rattle.atlas_search.specs.Lookups.{AreBelow, AreListed, HasAdded, HasSearched}
+use Rattle.atlas_search.specs.Lookups.{AreBelow, AreListed, FitsItemsFrom, HasAdded, HasSearched}
 use Rattle.atlas_search.specs.Masks.{has}
 use Rattle.atlas_search.specs.Tables.{head_of, is_used_at}
 use Rattle.atlas_search.proofs.SearchLemmas.AddedLists.{added-next, added-nothing, added-of, added-weaker}
-use Rattle.atlas_search.proofs.SearchLemmas.Windows.{large-law}
+use Rattle.atlas_search.proofs.SearchLemmas.Heaps.{top-of}
+use Rattle.atlas_search.proofs.SearchLemmas.TableHeads.{no_slot-is}
+use Rattle.atlas_search.proofs.SearchLemmas.Windows.{fits-reaching, large-law}
 
 -- Lists before a row and a column whose first slot has a number below k.
 abbrev pub IsAmong : (heads : List Link) → (end k : ℕ) → ℕ → ℕ → Type 0
@@ -50,11 +54,19 @@ module _ (o : Options) (es : List Item) (end : ℕ) (r : Sides) (heads : List Li
           | inr ne ↦ (w.0, omega (arith, w.1, ne))
         ]) before
 
-  pub few-end : ((k : ℕ) → is_used_at heads k ≡ true → (head_of heads k).number < 8) → (k : ℕ) → 8 ≤ k → (s t : Best)
-      → HasAdded o es end r (IsAmong heads end k) s t → HasAdded o es end r (AreBelow end) s t
-  few-end slots k past s t added =
+  -- A list begins with an entry.
+  first-inside : (k : ℕ) → k < 2704 → is_used_at heads k ≡ true → (head_of heads k).number < length es
+  first-inside k below used =
+      let list = a.lists k below in
+      (top-of es (tag_of k) (head_of heads k).number list.0 list.1
+      (λ none. true≢false (sym used ∙ no_slot-is (head_of heads k) none))).inside
+
+  pub few-end : ((k : ℕ) → is_used_at heads k ≡ true → (head_of heads k).number < 8) → (n k : ℕ) → n ≡ min 8 (length es) → n ≤ k
+      → (s t : Best) → HasAdded o es end r (IsAmong heads end k) s t → HasAdded o es end r (AreBelow end) s t
+  few-end slots n k least past s t added =
       added-weaker o es end r heads a (IsAmong heads end k) (AreBelow end) s t
-      (λ i j hi hj used w. (w, omega (arith, slots (52 * i + j) used, past))) added
+      (λ i j hi hj used w.
+          (w, omega (arith, slots (52 * i + j) used, first-inside (52 * i + j) (omega (arith, hi, hj)) used, least, past))) added
 
 -- A search that was shown all lists before a row and a column.
 pub searched-few : (o : Options) (es : List Item) (end : ℕ) (r : Sides) (s t : Best)
@@ -73,6 +85,17 @@ pub few-searched : (o : Options) (es : List Item) (end : ℕ) (r : Sides) (row c
 few-searched o es end r row column greater large s t valid positive er ec eg el begun added =
     searched-few o es end r s t
     (subst (λ (b : Bool). HasSeen s b r []) (large-law o r row column greater large valid positive er ec eg el) begun) added
+
+-- What a request fits stands in the greater of its own row and column, or after it.
+pub fits-far : (o : Options) (heads : List Link) (es : List Item) (r : Sides) → AreListed o heads es → (own : Place)
+    → own.row ≡ band_of o r.width → own.column ≡ band_of o r.height → (far : ℕ) → far ≡ max own.row own.column
+    → FitsItemsFrom o es far r
+fits-far o heads es r a own er ec far is =
+    fits-reaching o heads es r a own er ec far
+    (λ i j hi hj li lj used. elim (cases_lt own.row own.column) [
+      | inl l ↦ inr (omega (arith, l, is, lj))
+      | inr g ↦ inl (omega (arith, g, is, li))
+    ])
 
 -- Where a search goes on, the table has grown.
 pub grown-of : (is_grown : Bool) (n : ℕ) → (is_grown ≡ false → 52 ≤ n) → n < 52 → is_grown ≡ true

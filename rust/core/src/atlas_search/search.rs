@@ -182,7 +182,7 @@ fn search_few<A: Allocator, E: Entry>(
     end: usize,
     best: &mut Best,
 ) {
-    for i in 0..FEW {
+    for i in 0..FEW.min(entries.len()) {
         let list = table.list_of_few(i);
         let row = list / BANDS;
         let column = list % BANDS;
@@ -202,8 +202,9 @@ fn pick_few<A: Allocator, E: Entry>(
     size: Size,
 ) -> Option<Found> {
     let own = options.place_for(size);
-    let is_large = own.row.max(own.column) >= options.large();
-    let mut least = 0;
+    let far = own.row.max(own.column);
+    let is_large = far >= options.large();
+    let mut least = far;
     while least < BANDS {
         let end = options.end_after(least);
         let mut best = Best::new(size, is_large);

@@ -1,4 +1,5 @@
-use Rattle.std.proofs.Common.{map, ◌<◌, ◌+◌, ◌/◌, ◌%◌, sym, subst, arith}
+use Rattle.std.proofs.Common.{map, ◌<◌, ◌+◌, ◌/◌, ◌%◌, min, ap, sym, ◌∙◌, subst, arith}
+use Rattle.std.proofs.lemmas.List.{length-map}
 use Rattle.atlas_search.specs.declared.bands.Place.{Place}
 use Rattle.atlas_search.specs.declared.best.Best.{Best}
 use Rattle.atlas_search.specs.declared.link.Link.{Link}
@@ -53,5 +54,6 @@ loop-i-preserved g c o r a =
 
 pub returns : goal.returns
 returns g c o r a =
-    few-end o (map g.E.Entry.item c.args.entries.now) c.args.end r c.args.table.now.heads a c.requires.end c.requires.few c.loop-i.i
+    few-end o (map g.E.Entry.item c.args.entries.now) c.args.end r c.args.table.now.heads a c.requires.end c.requires.few c.min-i-end.result
+    c.loop-i.i (c.min-i-end.ensures ∙ ap (λ n. min 8 n) (sym (length-map c.args.entries.now g.E.Entry.item)))
     c.loop-i-test.false c.args.best.now c.loop-i.best (c.loop-i.invariant o r a)
