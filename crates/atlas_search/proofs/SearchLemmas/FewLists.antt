@@ -66,7 +66,7 @@ module _ (o : Options) (es : List Item) (end : ℕ) (r : Sides) (heads : List Li
   few-end slots n k least past s t added =
       added-weaker o es end r heads a (IsAmong heads end k) (AreBelow end) s t
       (λ i j hi hj used w.
-          (w, omega (arith, slots (52 * i + j) used, first-inside (52 * i + j) (omega (arith, hi, hj)) used, least, past))) added
+      (w, omega (arith, slots (52 * i + j) used, first-inside (52 * i + j) (omega (arith, hi, hj)) used, least, past))) added
 
 -- A search that was shown all lists before a row and a column.
 pub searched-few : (o : Options) (es : List Item) (end : ℕ) (r : Sides) (s t : Best)
