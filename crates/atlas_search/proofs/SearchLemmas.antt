@@ -11,6 +11,7 @@ pub mod ShownItems
 pub mod AddedLists
 pub mod AddedLines
 pub mod SearchesBefore
+pub mod NearColumns
 pub mod Windows
 pub mod ItemPicks
 pub mod BlankHeads

@@ -28,6 +28,10 @@ pub record HasSeen (s : Best) (is_large : Bool) (r : Sides) (shown : List Shown)
   pub best : ((s.rank ≡ no_rank) × FitsNone r shown)
       ⊎ ((s.rank < no_rank) × IsKeptOf is_large r shown s.rank s.corner s.at.number)
 
+-- Both sides of a size pass those of another.
+abbrev pub IsFarther : (far s : Sides) → Type 0
+IsFarther far s = (far.width < s.width) × (far.height < s.height)
+
 -- The best stays the best once this box is shown.
 abbrev pub IsPassed : Best → Box → Type 0
 IsPassed s b =

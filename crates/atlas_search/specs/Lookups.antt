@@ -1,5 +1,5 @@
 -- The search through lists of entries: what it needs, and what it answers. No public clause cites this module.
-use Rattle.std.specs.Prelude.{ℕ, ◌+◌, ◌*◌, ◌≡◌, ◌<◌, ◌≤◌, ◌==◌, ◌⊎◌, ◌++◌, Bool, true, List, Contains}
+use Rattle.std.specs.Prelude.{ℕ, ◌+◌, ◌*◌, ◌≡◌, ◌<◌, ◌≤◌, ◌==◌, ◌⊎◌, ◌++◌, Bool, true, false, List, Contains}
 use Rattle.std.specs.Prelude.{length, pos}
 use Rattle.atlas_search.specs.declared.bands.Borders.{Borders}
 use Rattle.atlas_search.specs.declared.bands.Place.{Place}
@@ -10,12 +10,12 @@ use Rattle.atlas_search.specs.declared.masks.Mask.{Mask}
 use Rattle.atlas_search.specs.Bands.{band_of, list_of, start_of}
 use Rattle.atlas_search.specs.Bests.{HasSeen}
 use Rattle.atlas_search.specs.Forks.{IsListed}
-use Rattle.atlas_model.specs.Boxes.{Sides, Box, Fits}
+use Rattle.atlas_model.specs.Boxes.{Sides, Box, box_sides, Fits}
 use Rattle.atlas_model.specs.Choice.{Options, AreValid, class_of}
 use Rattle.atlas_search.specs.Items.{Item, item_at, item_box, item_sides, shown_item, shown_items}
 use Rattle.atlas_search.specs.Rectangles.{IsSolid}
 use Rattle.atlas_search.specs.Numbers.{occurs}
-use Rattle.atlas_search.specs.Masks.{IsMarked}
+use Rattle.atlas_search.specs.Masks.{has, IsMarked}
 use Rattle.atlas_model.specs.Pixels.{box_of}
 use Rattle.atlas_search.specs.Searches.{Shown, shown_at, IsBestShown}
 use Rattle.atlas_search.specs.Tables.{head_of, is_used_at}
@@ -132,6 +132,18 @@ pub record IsSearch (o : Options) (heads : List Link) (es : List Item) (own : Pl
   pub column : own.column ≡ band_of o r.height
   pub from : FitsItemsFrom o es least r
   pub left : AreLeft heads own least columns rows
+
+-- A box of these sides stands in a list of the row in one of the columns, and in none of those that are near.
+pub record IsFarIn (o : Options) (row : ℕ) (columns near : Mask) (s : Sides) : Type 0 where
+  pub in_row : band_of o s.width ≡ row
+  pub in_column : IsMarked columns (band_of o s.height)
+  pub is_far : has near (band_of o s.height) ≡ false
+
+-- Of the lists of a row in some columns only those that are near can hold a better box than the best.
+pub record AreNear (o : Options) (row : ℕ) (columns near : Mask) (best : Best) : Type 0 where
+  pub inside : (j : ℕ) → IsMarked near j → IsMarked columns j
+  pub others : (is_large : Bool) (r : Sides) (shown more : List Shown) → HasSeen best is_large r shown
+      → ((c : Shown) → Contains more c → IsFarIn o row columns near (box_sides c.box)) → HasSeen best is_large r (shown ++ more)
 
 -- These rows, from a column on, before `end`.
 abbrev pub IsBeyond : (rows : Mask) → (first end : ℕ) → ℕ → ℕ → Type 0

@@ -1,6 +1,6 @@
 //! The best free box that a search was shown.
 ghost use Rattle.std.specs.Prelude.{◌≡◌, ◌≢◌, ◌<◌, ◌≤◌, ◌++◌, ◌∷◌, [], ℕ, Bool, List, pos};
-ghost use Rattle.std.specs.Prelude.{◌≤ℤ◌, ◌↔◌, IsTrue, IfSome, None, Contains, false};
+ghost use Rattle.std.specs.Prelude.{◌+◌, ◌<ℤ◌, ◌≤ℤ◌, ◌↔◌, IsTrue, IfSome, None, Contains, false};
 ghost use Rattle.atlas_model.specs.Boxes.{IsNonempty, IsPositive, Sides, box_sides};
 ghost use Rattle.atlas_model.specs.Pixels.{box_of, natural, sides_of};
 ghost use Rattle.atlas_search.specs.Ranks.{corner_of, no_corner, no_rank, rank_of, IsReach};
@@ -25,6 +25,19 @@ const NO_CORNER: u64 = 18446744073709551615;
 
 // No limit of margins.
 const NO_REACH: u32 = 4294967295;
+
+// Half of what an `i32` can hold.
+const FAR: u32 = 1073741824;
+
+// A side, and so much more.
+fn longer(side: i32, more: u32) -> i32
+    requires side { pos 0 <ℤ side }
+    requires short { side <ℤ pos 1073741824 }
+    requires more { more < 1073741824 }
+    ensures { result ≡ pos (natural side + more) }
+{
+    (side as u32 + more) as i32
+}
 
 /// The best of the boxes that a search was shown.
 #[derive(Clone, Copy)]
@@ -85,7 +98,7 @@ pub fn corner(rectangle: Rectangle) -> u64
 }
 
 impl Best {
-    ghost use Rattle.atlas_search.specs.Bests.{HasSeen, IsAhead, IsPassed, BecomesBest};
+    ghost use Rattle.atlas_search.specs.Bests.{HasSeen, IsAhead, IsFarther, IsPassed, BecomesBest};
     ghost use Rattle.atlas_search.specs.Forks.{IsIn};
     ghost use Rattle.atlas_search.specs.Searches.{Shown, shown_at};
 
@@ -181,6 +194,27 @@ impl Best {
             return false;
         }
         !cell.is_beyond(self.size, self.reach)
+    }
+
+    /// A size such that no box is better than the best that is both wider and higher; None as long as none is known, where the
+    /// request is large and the best has no equal side, and where a side may pass what an `i32` can hold.
+    pub fn farthest(&self) -> Option<Size>
+        ensures positive { IfSome result (λ far. IsPositive (sides_of far)) }
+        ensures far { IfSome result (λ far. (is_large : Bool) (r : Sides) (shown more : List Shown)
+            → HasSeen self.now is_large r shown
+            → ((c : Shown) → Contains more c → IsFarther (sides_of far) (box_sides c.box))
+            → HasSeen self.now is_large r (shown ++ more)) }
+    {
+        if self.reach >= FAR {
+            return None;
+        }
+        if self.size.width >= FAR as i32 || self.size.height >= FAR as i32 {
+            return None;
+        }
+        Some(Size {
+            width: longer(self.size.width, self.reach),
+            height: longer(self.size.height, self.reach),
+        })
     }
 
     /// The entry of the best of the boxes shown.

@@ -8,7 +8,7 @@ ghost use Rattle.atlas_search.specs.Forks.{IsRouted};
 ghost use Rattle.atlas_search.specs.Heaps.{Heap, IsHeap, members};
 ghost use Rattle.atlas_search.specs.Heaps.Heap.{Top};
 ghost use Rattle.atlas_search.specs.Items.{Item, item_at, shown_items};
-ghost use Rattle.atlas_search.specs.Lookups.{AreBelow, AreFreeItems, AreListed, AreNoneApart, HasAdded};
+ghost use Rattle.atlas_search.specs.Lookups.{AreBelow, AreFreeItems, AreListed, AreNear, AreNoneApart, HasAdded};
 ghost use Rattle.atlas_search.specs.Lookups.{HasSearched, HasShown, IsBeyond, IsInColumn, IsInRow, IsSearch};
 ghost use Rattle.atlas_search.specs.Lookups.{IsStanding};
 ghost use Rattle.atlas_search.specs.Masks.{IsMarked, has};
@@ -196,11 +196,27 @@ fn rows_with<A: Allocator>(table: &Table<A>, first: usize, end: usize) -> Mask
     rows
 }
 
+// Of the columns of a row those with a list that may hold a better box than the best.
+#[inline(always)]
+fn near(options: &Scale, row: usize, columns: Mask, best: &Best) -> Mask
+    ensures { AreNear (options_of options.now) row columns result best.now }
+{
+    let Some(far) = best.farthest() else {
+        return columns;
+    };
+    let place = options.place_for(far);
+    if row <= place.row {
+        return columns;
+    }
+    columns.below(place.column + 1)
+}
+
 // Shows lists of these rows to a search, from a column on and before another.
 #[inline(always)]
 fn search_rows<A: Allocator, E: Entry>(
     entries: &[E],
     table: &Table<A>,
+    options: &Scale,
     rows: Mask,
     first: usize,
     end: usize,
@@ -210,14 +226,15 @@ fn search_rows<A: Allocator, E: Entry>(
     requires rows { (i : ℕ) → IsMarked rows i → i < end }
     requires first { first ≤ BANDS }
     requires end { end ≤ BANDS }
-    requires listed { (o : Options) × AreListed o table.now.heads (map E.item entries.now) }
-    ensures { (o : Options) (r : Sides) → AreListed o table.now.heads (map E.item entries.now)
-        → HasAdded o (map E.item entries.now) end r (IsBeyond rows first end) best.old best.new }
+    requires listed { AreListed (options_of options.now) table.now.heads (map E.item entries.now) }
+    ensures { (r : Sides) → HasAdded (options_of options.now) (map E.item entries.now) end r (IsBeyond rows first end)
+        best.old best.new }
 {
     let mut left = rows;
     while let Some(row) = left.take_first() {
         let columns = table.row(row).from(first).below(end);
-        search_row(entries, table, row, columns, best);
+        let near = near(options, row, columns, best);
+        search_row(entries, table, row, near, best);
     }
 }
 
@@ -246,6 +263,7 @@ fn least_from<A: Allocator>(table: &Table<A>, own: Place, far: usize, columns: M
 fn search_before<A: Allocator, E: Entry>(
     entries: &[E],
     table: &Table<A>,
+    options: &Scale,
     own: Place,
     columns: Mask,
     rows: Mask,
@@ -256,11 +274,12 @@ fn search_before<A: Allocator, E: Entry>(
     requires column { own.column < end }
     requires end { end ≤ BANDS }
     requires grown { table.now.is_grown ≡ true }
-    requires search { (o : Options) × (r : Sides) × (least : ℕ)
-        × IsSearch o table.now.heads (map E.item entries.now) own r least columns rows }
-    ensures best { (o : Options) (r : Sides) (least : ℕ)
-        → IsSearch o table.now.heads (map E.item entries.now) own r least columns rows
-        → HasSeen best.old (class_of o r == 2) r [] → HasSearched o (map E.item entries.now) end r best.new }
+    requires search { (r : Sides) × (least : ℕ)
+        × IsSearch (options_of options.now) table.now.heads (map E.item entries.now) own r least columns rows }
+    ensures best { (r : Sides) (least : ℕ)
+        → IsSearch (options_of options.now) table.now.heads (map E.item entries.now) own r least columns rows
+        → HasSeen best.old (class_of (options_of options.now) r == 2) r []
+        → HasSearched (options_of options.now) (map E.item entries.now) end r best.new }
     ensures last { result ≡ true → AreNoneApart table.now.heads own }
 {
     search_row(entries, table, own.row, columns.below(end), best);
@@ -270,7 +289,7 @@ fn search_before<A: Allocator, E: Entry>(
     }
     let first = own.column + 1;
     let others = rows_with(table, first, BANDS).from(own.row + 1);
-    search_rows(entries, table, others.below(end), first, end, best);
+    search_rows(entries, table, options, others.below(end), first, end, best);
     others.is_empty()
 }
 
@@ -355,7 +374,7 @@ pub fn pick<A: Allocator, E: Entry>(
     let mut best = Best::new(size, is_large);
     while least < BANDS {
         let end = options.end_after(least);
-        let is_last = search_before(entries, table, own, columns, rows, end, &mut best);
+        let is_last = search_before(entries, table, options, own, columns, rows, end, &mut best);
         if let Some(at) = best.found() {
             let rectangle = entries[at.number as usize].rectangle();
             return Some(Found { rectangle, at });

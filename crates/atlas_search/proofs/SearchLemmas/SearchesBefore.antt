@@ -25,11 +25,11 @@ use Rattle.atlas_search.proofs.SearchLemmas.Heaps.{listed-inside}
 use Rattle.atlas_search.proofs.SearchLemmas.ShownItems.{shown_items-has, shown_items-in}
 
 -- The numbers below n that pass a test.
-numbers_where : (ℕ → Bool) → ℕ → List ℕ
+pub numbers_where : (ℕ → Bool) → ℕ → List ℕ
 numbers_where p zero = []
 numbers_where p (suc n) = cond (p n) (n ∷ numbers_where p n) (numbers_where p n)
 
-where-has : (p : ℕ → Bool) (n i : ℕ) → i < n → p i ≡ true → 0 < occurs i (numbers_where p n)
+pub where-has : (p : ℕ → Bool) (n i : ℕ) → i < n → p i ≡ true → 0 < occurs i (numbers_where p n)
 unfolding numbers_where
 where-has p zero i l h = absurd (omega arith)
 where-has p (suc n) i l h =
@@ -41,12 +41,12 @@ where-has p (suc n) i l h =
     ])
     (λ f. elim (cases_eq i n) [ inl e ↦ absurd (true≢false (sym h ∙ ap p e ∙ f)) | inr ne ↦ where-has p n i (omega arith) h ])
 
-where-only : (p : ℕ → Bool) (n i : ℕ) → 0 < occurs i (numbers_where p n) → p i ≡ true
+pub where-only : (p : ℕ → Bool) (n i : ℕ) → 0 < occurs i (numbers_where p n) → p i ≡ true
 unfolding numbers_where
 where-only p zero i h = absurd (omega arith)
 where-only p (suc n) i h = grind (arith, numbers_where, where-only p n i, same-ne)
 
-and_both : (a b : Bool) → (a && b) ≡ true → (a ≡ true) × (b ≡ true)
+pub and_both : (a b : Bool) → (a && b) ≡ true → (a ≡ true) × (b ≡ true)
 and_both true b e = (refl, e)
 and_both false b e = absurd (true≢false (sym e))
 

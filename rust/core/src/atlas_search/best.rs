@@ -21,6 +21,15 @@ const NO_CORNER: u64 = u64::MAX;
 // No limit of margins.
 const NO_REACH: u32 = 4294967295;
 
+// Half of what an `i32` can hold.
+const FAR: u32 = 1073741824;
+
+// A side, and so much more.
+#[inline]
+fn longer(side: i32, more: u32) -> i32 {
+    (side as u32 + more) as i32
+}
+
 /// The best of the boxes that a search was shown.
 #[derive(Clone, Copy)]
 pub struct Best {
@@ -148,6 +157,23 @@ impl Best {
             return false;
         }
         !cell.is_beyond(self.size, self.reach)
+    }
+
+    /// A size such that no box is better than the best that is both wider and higher; None as long as none is known, where the
+    /// request is large and the best has no equal side, and where a side may pass what an `i32` can hold.
+    #[inline]
+    #[must_use]
+    pub fn farthest(&self) -> Option<Size> {
+        if self.reach >= FAR {
+            return None;
+        }
+        if self.size.width >= FAR as i32 || self.size.height >= FAR as i32 {
+            return None;
+        }
+        Some(Size {
+            width: longer(self.size.width, self.reach),
+            height: longer(self.size.height, self.reach),
+        })
     }
 
     /// The entry of the best of the boxes shown.

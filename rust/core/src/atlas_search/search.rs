@@ -125,11 +125,28 @@ fn rows_with<A: Allocator>(table: &Table<A>, first: usize, end: usize) -> Mask {
     rows
 }
 
+// Of the columns of a row those with a list that may hold a better box than the best.
+#[inline(always)]
+fn near(options: &Scale, row: usize, columns: Mask, best: &Best) -> Mask {
+    let far = match best.farthest() {
+        Some(far) => far,
+        _ => {
+            return columns;
+        }
+    };
+    let place = options.place_for(far);
+    if row <= place.row {
+        return columns;
+    }
+    columns.below(place.column + 1)
+}
+
 // Shows lists of these rows to a search, from a column on and before another.
 #[inline(always)]
 fn search_rows<A: Allocator, E: Entry>(
     entries: &[E],
     table: &Table<A>,
+    options: &Scale,
     rows: Mask,
     first: usize,
     end: usize,
@@ -138,7 +155,8 @@ fn search_rows<A: Allocator, E: Entry>(
     let mut left = rows;
     while let Some(row) = left.take_first() {
         let columns = table.row(row).from(first).below(end);
-        search_row(entries, table, row, columns, best);
+        let near = near(options, row, columns, best);
+        search_row(entries, table, row, near, best);
     }
 }
 
@@ -157,6 +175,7 @@ fn least_from<A: Allocator>(table: &Table<A>, own: Place, far: usize, columns: M
 fn search_before<A: Allocator, E: Entry>(
     entries: &[E],
     table: &Table<A>,
+    options: &Scale,
     own: Place,
     columns: Mask,
     rows: Mask,
@@ -170,7 +189,7 @@ fn search_before<A: Allocator, E: Entry>(
     }
     let first = own.column + 1;
     let others = rows_with(table, first, BANDS).from(own.row + 1);
-    search_rows(entries, table, others.below(end), first, end, best);
+    search_rows(entries, table, options, others.below(end), first, end, best);
     others.is_empty()
 }
 
@@ -236,7 +255,7 @@ pub fn pick<A: Allocator, E: Entry>(
     let mut best = Best::new(size, is_large);
     while least < BANDS {
         let end = options.end_after(least);
-        let is_last = search_before(entries, table, own, columns, rows, end, &mut best);
+        let is_last = search_before(entries, table, options, own, columns, rows, end, &mut best);
         if let Some(at) = best.found() {
             let rectangle = entries[at.number as usize].rectangle();
             return Some(Found { rectangle, at });

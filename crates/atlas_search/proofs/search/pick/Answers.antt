@@ -36,7 +36,6 @@ loop-least-init g c =
 
 pub search_before-is_last-requires-clause-search : goal.search_before-is_last-requires-clause-search
 search_before-is_last-requires-clause-search g c = (
-  options_of c.args.options.now,
   sides_of c.args.size,
   c.loop-least.least,
   (c.loop-least.invariant.0 (grown-of c.args.table.now.is_grown c.loop-least.least c.loop-least.invariant.4 c.loop-least-test.true)),
@@ -47,7 +46,7 @@ bounds-entries-at g c =
     let o = options_of c.args.options.now in
     let es = map g.E.Entry.item c.args.entries.now in
     let is = c.in-Some.ensures.some in
-    let searched = c.search_before-is_last.ensures.best o (sides_of c.args.size) c.loop-least.least (c.loop-least.invariant.0
+    let searched = c.search_before-is_last.ensures.best (sides_of c.args.size) c.loop-least.least (c.loop-least.invariant.0
     (grown-of c.args.table.now.is_grown c.loop-least.least c.loop-least.invariant.4 c.loop-least-test.true))
     c.loop-least.invariant.3 in
     let best = best-found o es (sides_of c.args.size) c.end_after-end.result c.search_before-is_last.new.best c.in-Some.at _ searched is.0
@@ -65,7 +64,7 @@ returns-in-Some-clause-picked g c =
     let is = c.in-Some.ensures.some in
     let search = (c.loop-least.invariant.0 (grown-of c.args.table.now.is_grown c.loop-least.least c.loop-least.invariant.4
     c.loop-least-test.true)) in
-    let searched = c.search_before-is_last.ensures.best o r c.loop-least.least search c.loop-least.invariant.3 in
+    let searched = c.search_before-is_last.ensures.best r c.loop-least.least search c.loop-least.invariant.3 in
     let free = (best-found o es r c.end_after-end.result c.search_before-is_last.new.best c.in-Some.at _ searched is.0 is.1
     refl).standing.free in
     let area = area-read g.E.Entry.item c.args.entries.now c.in-Some.at.number c.index-entries-at.result c.rectangle-rectangle.result free
@@ -81,7 +80,7 @@ returns-in-Some-clause-standing g c =
     let es = map g.E.Entry.item c.args.entries.now in
     let r = sides_of c.args.size in
     let is = c.in-Some.ensures.some in
-    let searched = c.search_before-is_last.ensures.best o r c.loop-least.least (c.loop-least.invariant.0
+    let searched = c.search_before-is_last.ensures.best r c.loop-least.least (c.loop-least.invariant.0
     (grown-of c.args.table.now.is_grown c.loop-least.least c.loop-least.invariant.4 c.loop-least-test.true)) c.loop-least.invariant.3 in
     let free = (best-found o es r c.end_after-end.result c.search_before-is_last.new.best c.in-Some.at _ searched is.0 is.1
     refl).standing.free in
@@ -99,7 +98,7 @@ loop-least-preserved g c =
     let search = (c.loop-least.invariant.0 (grown-of c.args.table.now.is_grown c.loop-least.least c.loop-least.invariant.4
     c.loop-least-test.true)) in
     let end = c.end_after-end in
-    let searched = c.search_before-is_last.ensures.best o r l.least search l.invariant.3 in
+    let searched = c.search_before-is_last.ensures.best r l.least search l.invariant.3 in
     let none = c.found.ensures.none c.in_default.is in (
       λ _. record {
         listed = search.listed;
@@ -127,7 +126,7 @@ returns-then-is_empty-clause-none g c _ =
     let search = (c.loop-least.invariant.0 (grown-of c.args.table.now.is_grown c.loop-least.least c.loop-least.invariant.4
     c.loop-least-test.true)) in
     let end = c.end_after-end in
-    let searched = c.search_before-is_last.ensures.best o r l.least search l.invariant.3 in
+    let searched = c.search_before-is_last.ensures.best r l.least search l.invariant.3 in
     let left = left-next c.args.table.now.heads c.place_for-own.result l.least end.result end.result l.columns l.rows
     c.from-columns-in-loop-least.result c.from-rows-in-loop-least.result
     (omega (arith, l.invariant.1, end.ensures.after)) (omega (arith, l.invariant.2, end.ensures.after)) end.ensures.after (omega arith)

@@ -1,35 +1,49 @@
 use Rattle.std.proofs.Common.{map, refl, arith}
+use Rattle.atlas_model.specs.Pixels.{options_of}
 use Rattle.atlas_search.proofs.SearchLemmas.AddedLists.{added-of}
 use Rattle.atlas_search.proofs.SearchLemmas.AddedLines.{rows-begin, rows-go_on, rest-marked}
+use Rattle.atlas_search.proofs.SearchLemmas.NearColumns.{added-row}
 use Rattle.atlas_search.proofs.SearchLemmas.SearchesBefore.{below-marked, marked-below, marked-from}
 use Rattle.atlas_search.proofs.search.search_rows.Goals as goal
 
 pub loop-row-init : goal.loop-row-init
-loop-row-init g c =
-    ((λ k h. h), λ o r a. rows-begin o (map g.E.Entry.item c.args.entries.now) c.args.end r c.args.first c.args.rows c.args.best.now)
+loop-row-init g c = (
+  (λ k h. h),
+  λ r. rows-begin (options_of c.args.options.now) (map g.E.Entry.item c.args.entries.now) c.args.end r c.args.first c.args.rows
+      c.args.best.now,
+)
+
+pub search_row-requires-clause-listed : goal.search_row-requires-clause-listed
+search_row-requires-clause-listed g c = (options_of c.args.options.now, c.requires.listed)
 
 pub loop-row-preserved : goal.loop-row-preserved
 loop-row-preserved g c =
     let l = c.loop-row in
     let k = c.in-Some.row in
-    let inside = l.invariant.0 k c.in-Some.ensures.first.0 in (
+    let o = options_of c.args.options.now in
+    let es = map g.E.Entry.item c.args.entries.now in
+    let inside = l.invariant.0 k c.in-Some.ensures.first.0 in
+    let before = c.requires.rows k inside in (
       λ j h. l.invariant.0 j (rest-marked l.left c.take_first.new.self k j c.in-Some.ensures.rest h),
-      λ o r a.
-          rows-go_on o (map g.E.Entry.item c.args.entries.now) c.args.end r c.args.table.now.heads k c.args.first c.args.rows l.left
+      λ r.
+          rows-go_on o es c.args.end r c.args.table.now.heads k c.args.first c.args.rows l.left
           c.take_first.new.self
-          c.below-columns.result c.args.best.now l.best c.search_row.new.best a c.in-Some.ensures.rest
+          c.below-columns.result c.args.best.now l.best c.search_row.new.best c.requires.listed c.in-Some.ensures.rest
           (λ j past before used. marked-below c.from.result c.below-columns.result c.args.end j c.below-columns.ensures
           (marked-from c.row.result c.from.result c.args.first j c.from.ensures (grind (arith, c.row.ensures.used, used, before)) past)
           before)
-          (l.invariant.1 o r a)
-          (c.search_row.ensures o c.args.end r a (λ j h. (
-            c.requires.rows k inside,
-            (below-marked c.from.result c.below-columns.result c.args.end j c.below-columns.ensures h).1,
-          ))),
+          (l.invariant.1 r)
+          (added-row o c.args.table.now.heads es c.requires.listed c.args.end r k c.below-columns.result c.near-near.result l.best
+          c.near-near.ensures (λ j h. (before, (below-marked c.from.result c.below-columns.result c.args.end j c.below-columns.ensures h).1))
+          c.search_row.new.best
+          (c.search_row.ensures o c.args.end r c.requires.listed (λ j h. (
+            before,
+            (below-marked c.from.result c.below-columns.result c.args.end j c.below-columns.ensures (c.near-near.ensures.inside j h)).1,
+          )))),
     )
 
 pub returns : goal.returns
-returns g c o r a =
+returns g c r =
     let l = c.loop-row in
-    added-of o (map g.E.Entry.item c.args.entries.now) c.args.end r _ _ c.args.best.now l.best
-    (λ i j v. (v, c.in_default.ensures.none refl i)) (l.invariant.1 o r a)
+    added-of (options_of c.args.options.now) (map g.E.Entry.item c.args.entries.now) c.args.end r _ _ c.args.best.now l.best
+    (λ i j v. (v, c.in_default.ensures.none refl i)) (l.invariant.1 r)
