@@ -1,5 +1,5 @@
 -- Columns of a row that can't hold a better box than the best.
-use Rattle.std.proofs.Common.{◌≡◌, ℕ, ◌+◌, ◌*◌, ◌<◌, ◌==◌, ◌&&◌, ◌⊎◌, nat_lt, Bool, true, false, not, List, length, refl, sym, ◌∙◌, subst, inl, inr}
+use Rattle.std.proofs.Common.{◌≡◌, ℕ, ◌<◌, ◌==◌, ◌&&◌, ◌⊎◌, Bool, true, false, not, List, length, refl, sym, ◌∙◌, subst, inl, inr}
 use Rattle.std.proofs.Common.{arith}
 use Rattle.std.proofs.lemmas.Bool.{true≢false, and_from, cases_Bool, eq-eqb, eqb-true, not-true, not_from_false}
 use Rattle.atlas_search.specs.declared.best.Best.{Best}
@@ -65,7 +65,9 @@ module _ (o : Options) (heads : List Link) (es : List Item) (a : AreListed o hea
             let P : Shown → Type 0 = λ d. ((item_at es d.at).is_free ≡ true) × (d ≡ shown_item es d.at) × IsItemBelow o es end d.at in
             let b = below _ f.1.in_column in
             subst P (sym t.2) (f.0, refl, (omega (arith, f.1.in_row, b.0), b.1));
-        each = λ i free v. shown_items-has es xs i (where-has is_far (length es) i (inside i free) (has-far i free (record { in_row = v.0; in_column = v.1; is_far = v.2 })));
+        each = λ i free v.
+            let far = has-far i free (record { in_row = v.0; in_column = v.1; is_far = v.2 }) in
+            shown_items-has es xs i (where-has is_far (length es) i (inside i free) far);
         seen = λ is_large shown h. is.others is_large r shown (shown_items es xs) h (λ c has.
             let t = shown_items-in es xs c has in
             subst (λ (d : Shown). IsFarIn o row columns near (box_sides d.box)) (sym t.2) (far t.0 t.1).1);

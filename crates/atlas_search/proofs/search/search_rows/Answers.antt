@@ -34,7 +34,8 @@ loop-row-preserved g c =
           before)
           (l.invariant.1 r)
           (added-row o c.args.table.now.heads es c.requires.listed c.args.end r k c.below-columns.result c.near-near.result l.best
-          c.near-near.ensures (λ j h. (before, (below-marked c.from.result c.below-columns.result c.args.end j c.below-columns.ensures h).1))
+          c.near-near.ensures
+          (λ j h. (before, (below-marked c.from.result c.below-columns.result c.args.end j c.below-columns.ensures h).1))
           c.search_row.new.best
           (c.search_row.ensures o c.args.end r c.requires.listed (λ j h. (
             before,
