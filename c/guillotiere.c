@@ -9880,7 +9880,7 @@ SMALL const atlas_allocator_AtlasAllocator *std_alloc_boxed_methods_BoxDeref_der
 SMALL atlas_model_Size atlas_allocator_atlas_AtlasAllocator_size(const atlas_allocator_AtlasAllocator *self);
 PART Result_AtlasError atlas_allocator_atlas_AtlasAllocator_grow(atlas_allocator_AtlasAllocator *self, atlas_model_Size new_size);
 SMALL bool atlas_allocator_atlas_AtlasAllocator_can_grow_to(const atlas_allocator_AtlasAllocator *self, atlas_model_Size new_size);
-SMALL bool atlas_allocator_atlas_AtlasAllocator_can_fit(const atlas_allocator_AtlasAllocator *self, atlas_model_Size requested_size);
+PART bool atlas_allocator_atlas_AtlasAllocator_can_fit(const atlas_allocator_AtlasAllocator *self, atlas_model_Size requested_size);
 SMALL Result_AtlasError atlas_allocator_atlas_AtlasAllocator_reserve(atlas_allocator_AtlasAllocator *self, uint32_t additional);
 SMALL Result_AtlasError atlas_allocator_atlas_AtlasAllocator_clear(atlas_allocator_AtlasAllocator *self);
 SMALL bool atlas_model_options_AllocatorOptions_is_valid(const atlas_model_AllocatorOptions *self);
@@ -10619,8 +10619,8 @@ SMALL uint64_t atlas_search_search_least_from(const atlas_search_Table *table, a
         atlas_search_Mask columns);
 SMALL atlas_search_Best atlas_search_best_Best_new(atlas_model_Size size, bool is_large);
 SMALL uint64_t atlas_search_bands_Scale_end_after(const atlas_search_Scale *self, uint64_t first);
-SMALL bool atlas_search_search_search_before_Slot(slice_Slot entries, const atlas_search_Table *table, atlas_search_Place own,
-        atlas_search_Mask columns, atlas_search_Mask rows, uint64_t end, atlas_search_Best *best);
+SMALL bool atlas_search_search_search_before_Slot(slice_Slot entries, const atlas_search_Table *table, const atlas_search_Scale *options,
+        atlas_search_Place own, atlas_search_Mask columns, atlas_search_Mask rows, uint64_t end, atlas_search_Best *best);
 SMALL Option_Link atlas_search_best_Best_found(const atlas_search_Best *self);
 SMALL atlas_model_Rectangle atlas_store_slots_entry_SlotEntry_rectangle(const atlas_store_Slot *self);
 SMALL atlas_search_Mask atlas_search_masks_Mask_or(atlas_search_Mask self, atlas_search_Mask other);
@@ -10948,8 +10948,8 @@ SMALL void atlas_search_search_search_column_Slot(slice_Slot entries, const atla
         atlas_search_Mask rows, atlas_search_Best *best);
 SMALL bool atlas_search_best_Best_has_equal_side(const atlas_search_Best *self);
 SMALL atlas_search_Mask atlas_search_search_rows_with(const atlas_search_Table *table, uint64_t first, uint64_t end);
-SMALL void atlas_search_search_search_rows_Slot(slice_Slot entries, const atlas_search_Table *table, atlas_search_Mask rows,
-        uint64_t first, uint64_t end, atlas_search_Best *best);
+SMALL void atlas_search_search_search_rows_Slot(slice_Slot entries, const atlas_search_Table *table, const atlas_search_Scale *options,
+        atlas_search_Mask rows, uint64_t first, uint64_t end, atlas_search_Best *best);
 SMALL void atlas_search_search_search_few_Slot(slice_Slot entries, const atlas_search_Table *table, uint64_t end, atlas_search_Best *best);
 SMALL void std_alloc_vec_Vec_put_Slot(Vec_Slot *self, atlas_store_Slot x);
 SMALL bool atlas_allocator_atlas_room_precedes(const atlas_model_Rectangle *one, const atlas_model_Rectangle *other);
@@ -10977,8 +10977,9 @@ SMALL void atlas_store_slots_batch_show(slice_Slot_2 slots, slice_AllocId ids);
 SMALL void std_alloc_vec_opened_drop_run_AllocId(Slots_CacheChange_u64 *row, uint64_t from, uint64_t to);
 SMALL uint64_t atlas_search_bands_border(uint32_t threshold, const atlas_model_AllocatorOptions *options);
 SMALL void std_alloc_vec_Vec_truncate_within_FreeBox(Vec_Slot *self, uint64_t n);
-SMALL bool atlas_search_search_search_before_FreeBox(slice_FreeBox entries, const atlas_search_Table *table, atlas_search_Place own,
-        atlas_search_Mask columns, atlas_search_Mask rows, uint64_t end, atlas_search_Best *best);
+SMALL bool atlas_search_search_search_before_FreeBox(slice_FreeBox entries, const atlas_search_Table *table,
+        const atlas_search_Scale *options, atlas_search_Place own, atlas_search_Mask columns, atlas_search_Mask rows, uint64_t end,
+        atlas_search_Best *best);
 SMALL atlas_model_Rectangle guillotiere_simple_boxes_FreeBoxEntry_rectangle(const guillotiere_FreeBox *self);
 COLD Option_Found atlas_search_search_pick_few_FreeBox(slice_FreeBox entries, const atlas_search_Table *table,
         const atlas_search_Scale *options, atlas_model_Size size);
@@ -11302,6 +11303,8 @@ SMALL uint64_t atlas_search_bands_step(uint32_t side);
 SMALL uint64_t atlas_search_bands_passed(uint32_t side, uint32_t threshold);
 SMALL void atlas_search_search_search_list_Slot(slice_Slot entries, const atlas_search_Table *table, atlas_search_Place place,
         atlas_search_Best *best);
+SMALL atlas_search_Mask atlas_search_search_near(const atlas_search_Scale *options, uint64_t row, atlas_search_Mask columns,
+        const atlas_search_Best *best);
 SMALL uint64_t atlas_search_table_Table_list_of_few(const atlas_search_Table *self, uint64_t i);
 SMALL void atlas_search_search_show_list_Slot(slice_Slot entries, atlas_search_Link top, atlas_search_Best *best);
 SMALL uint64_t std_alloc_vec_least_capacity_Allocation(void);
@@ -11331,8 +11334,8 @@ SMALL void atlas_search_search_search_row_FreeBox(slice_FreeBox entries, const a
         atlas_search_Mask columns, atlas_search_Best *best);
 SMALL void atlas_search_search_search_column_FreeBox(slice_FreeBox entries, const atlas_search_Table *table, uint64_t column,
         atlas_search_Mask rows, atlas_search_Best *best);
-SMALL void atlas_search_search_search_rows_FreeBox(slice_FreeBox entries, const atlas_search_Table *table, atlas_search_Mask rows,
-        uint64_t first, uint64_t end, atlas_search_Best *best);
+SMALL void atlas_search_search_search_rows_FreeBox(slice_FreeBox entries, const atlas_search_Table *table,
+        const atlas_search_Scale *options, atlas_search_Mask rows, uint64_t first, uint64_t end, atlas_search_Best *best);
 SMALL void atlas_search_search_search_few_FreeBox(slice_FreeBox entries, const atlas_search_Table *table, uint64_t end,
         atlas_search_Best *best);
 SMALL void guillotiere_simple_boxes_FreeBoxes_unlist(guillotiere_FreeBoxes *self, atlas_search_Link at);
@@ -11655,6 +11658,7 @@ PART atlas_search_Link atlas_search_heap_sort_in_Slot(slice_Slot_2 entries, atla
 SMALL atlas_store_Slot atlas_store_slots_lists_fresh_slot(void);
 SMALL void atlas_store_slots_lists_renew(slice_Slot_2 slots, atlas_search_Link at);
 SMALL atlas_search_Link atlas_search_table_Table_stored_head(const atlas_search_Table *self, atlas_search_Place at);
+SMALL Option_Size atlas_search_best_Best_farthest(const atlas_search_Best *self);
 SMALL bool atlas_search_search_show_entry_Slot(const atlas_store_Slot *entry, atlas_search_Link at, atlas_search_Best *best);
 SMALL atlas_search_Halves atlas_search_cells_Cell_halves(atlas_search_Cell self);
 SMALL atlas_search_Link atlas_store_slots_entry_SlotEntry_left(const atlas_store_Slot *self);
@@ -11990,6 +11994,7 @@ SMALL atlas_search_Link atlas_search_heap_meld_Slot(slice_Slot_2 entries, atlas_
         atlas_search_Link up);
 SMALL void atlas_search_heap_make_fork_Slot(slice_Slot_2 entries, atlas_search_Cell cell, atlas_search_Link top);
 SMALL atlas_search_Pair atlas_search_heap_in_order_Slot(slice_Slot entries, atlas_search_Link one, atlas_search_Link other);
+SMALL uint32_t atlas_search_best_longer(uint32_t side, uint32_t more);
 SMALL uint64_t atlas_search_best_corner(atlas_model_Rectangle rectangle);
 SMALL bool atlas_search_best_Best_passes(const atlas_search_Best *self, uint64_t corner);
 SMALL void atlas_search_best_Best_look(atlas_search_Best *self, atlas_model_Rectangle rectangle, uint64_t corner, atlas_search_Link at);
@@ -16149,7 +16154,7 @@ SMALL bool atlas_allocator_atlas_AtlasAllocator_can_grow_to(const atlas_allocato
  * it, slots and memory aside; else it answers None. Takes one search, and no memory.
  * crates/atlas_allocator/src/atlas/queries.rt
  */
-SMALL bool atlas_allocator_atlas_AtlasAllocator_can_fit(const atlas_allocator_AtlasAllocator *self, atlas_model_Size requested_size) {
+PART bool atlas_allocator_atlas_AtlasAllocator_can_fit(const atlas_allocator_AtlasAllocator *self, atlas_model_Size requested_size) {
     Option_Size option_4;
     bool is_6;
     Option_Found option_9;
@@ -22157,7 +22162,7 @@ SMALL Option_Found atlas_search_search_pick_Slot(slice_Slot entries, const atlas
             break;
         }
         n_12 = atlas_search_bands_Scale_end_after(options, n_10);
-        is_13 = atlas_search_search_search_before_Slot(entries, table, place_5, mask_8, mask_9, n_12, &best_11);
+        is_13 = atlas_search_search_search_before_Slot(entries, table, options, place_5, mask_8, mask_9, n_12, &best_11);
         option_21 = atlas_search_best_Best_found(&best_11);
         if (option_21.tag == 1u /* Some */) {
             link_14 = option_21.Some.field_0;
@@ -25613,27 +25618,27 @@ SMALL uint64_t atlas_search_bands_Scale_end_after(const atlas_search_Scale *self
  * free. Answers whether it saw that no list to the right and below has a slot.
  * crates/atlas_search/src/search.rt
  */
-SMALL bool atlas_search_search_search_before_Slot(slice_Slot entries, const atlas_search_Table *table, atlas_search_Place own,
-        atlas_search_Mask columns, atlas_search_Mask rows, uint64_t end, atlas_search_Best *best) {
-    uint64_t n_8;
-    atlas_search_Mask mask_9;
-    atlas_search_Mask mask_11;
-    atlas_search_Mask mask_18;
-    atlas_search_Mask mask_20;
+SMALL bool atlas_search_search_search_before_Slot(slice_Slot entries, const atlas_search_Table *table, const atlas_search_Scale *options,
+        atlas_search_Place own, atlas_search_Mask columns, atlas_search_Mask rows, uint64_t end, atlas_search_Best *best) {
+    uint64_t n_9;
+    atlas_search_Mask mask_10;
+    atlas_search_Mask mask_12;
+    atlas_search_Mask mask_19;
     atlas_search_Mask mask_21;
-    mask_11 = atlas_search_masks_Mask_below(columns, end);
-    atlas_search_search_search_row_Slot(entries, table, own.row, mask_11, best);
-    mask_18 = atlas_search_masks_Mask_below(rows, end);
-    atlas_search_search_search_column_Slot(entries, table, own.column, mask_18, best);
+    atlas_search_Mask mask_22;
+    mask_12 = atlas_search_masks_Mask_below(columns, end);
+    atlas_search_search_search_row_Slot(entries, table, own.row, mask_12, best);
+    mask_19 = atlas_search_masks_Mask_below(rows, end);
+    atlas_search_search_search_column_Slot(entries, table, own.column, mask_19, best);
     if (atlas_search_best_Best_has_equal_side(best)) {
         return false;
     }
-    n_8 = own.column + 1u;
-    mask_20 = atlas_search_search_rows_with(table, n_8, 52u);
-    mask_9 = atlas_search_masks_Mask_from(mask_20, own.row + 1u);
-    mask_21 = atlas_search_masks_Mask_below(mask_9, end);
-    atlas_search_search_search_rows_Slot(entries, table, mask_21, n_8, end, best);
-    return atlas_search_masks_Mask_is_empty(mask_9);
+    n_9 = own.column + 1u;
+    mask_21 = atlas_search_search_rows_with(table, n_9, 52u);
+    mask_10 = atlas_search_masks_Mask_from(mask_21, own.row + 1u);
+    mask_22 = atlas_search_masks_Mask_below(mask_10, end);
+    atlas_search_search_search_rows_Slot(entries, table, options, mask_22, n_9, end, best);
+    return atlas_search_masks_Mask_is_empty(mask_10);
 }
 
 /* The entry of the best of the boxes shown.
@@ -25683,34 +25688,34 @@ SMALL bool atlas_search_table_Table_is_grown(const atlas_search_Table *self) {
 COLD Option_Found atlas_search_search_pick_few_Slot(slice_Slot entries, const atlas_search_Table *table, const atlas_search_Scale *options,
         atlas_model_Size size) {
     atlas_search_Place place_5;
-    bool is_6;
-    uint64_t n_7;
+    uint64_t n_6;
+    bool is_7;
     uint64_t n_8;
-    atlas_search_Best best_9;
-    atlas_search_Link link_10;
-    atlas_model_Rectangle rectangle_11;
-    uint64_t n_12;
+    uint64_t n_9;
+    atlas_search_Best best_10;
+    atlas_search_Link link_11;
+    atlas_model_Rectangle rectangle_12;
     uint64_t n_13;
     Option_Link option_18;
     place_5 = atlas_search_bands_Scale_place_for(options, size);
-    n_12 = core_int_usize_max(place_5.row, place_5.column);
+    n_6 = core_int_usize_max(place_5.row, place_5.column);
     n_13 = atlas_search_bands_Scale_large(options);
-    n_7 = 0u;
-    is_6 = n_13 <= n_12;
+    n_8 = n_6;
+    is_7 = n_13 <= n_6;
     for (;;) {
-        if (!(n_7 < 52u)) {
+        if (!(n_8 < 52u)) {
             break;
         }
-        n_8 = atlas_search_bands_Scale_end_after(options, n_7);
-        best_9 = atlas_search_best_Best_new(size, is_6);
-        atlas_search_search_search_few_Slot(entries, table, n_8, &best_9);
-        option_18 = atlas_search_best_Best_found(&best_9);
+        n_9 = atlas_search_bands_Scale_end_after(options, n_8);
+        best_10 = atlas_search_best_Best_new(size, is_7);
+        atlas_search_search_search_few_Slot(entries, table, n_9, &best_10);
+        option_18 = atlas_search_best_Best_found(&best_10);
         if (option_18.tag == 1u /* Some */) {
-            link_10 = option_18.Some.field_0;
-            rectangle_11 = atlas_store_slots_entry_SlotEntry_rectangle(((atlas_store_Slot *)entries.at + (uint64_t)link_10.number));
-            return new_Option_Found_Some(new_atlas_search_Found(rectangle_11, link_10));
+            link_11 = option_18.Some.field_0;
+            rectangle_12 = atlas_store_slots_entry_SlotEntry_rectangle(((atlas_store_Slot *)entries.at + (uint64_t)link_11.number));
+            return new_Option_Found_Some(new_atlas_search_Found(rectangle_12, link_11));
         }
-        n_7 = n_8;
+        n_8 = n_9;
     }
     return new_Option_Found_None();
 }
@@ -26178,7 +26183,7 @@ SMALL Option_Found atlas_search_search_pick_FreeBox(slice_FreeBox entries, const
             break;
         }
         n_12 = atlas_search_bands_Scale_end_after(options, n_10);
-        is_13 = atlas_search_search_search_before_FreeBox(entries, table, place_5, mask_8, mask_9, n_12, &best_11);
+        is_13 = atlas_search_search_search_before_FreeBox(entries, table, options, place_5, mask_8, mask_9, n_12, &best_11);
         option_21 = atlas_search_best_Best_found(&best_11);
         if (option_21.tag == 1u /* Some */) {
             link_14 = option_21.Some.field_0;
@@ -30273,23 +30278,25 @@ SMALL atlas_search_Mask atlas_search_search_rows_with(const atlas_search_Table *
 /* Shows lists of these rows to a search, from a column on and before another.
  * crates/atlas_search/src/search.rt
  */
-SMALL void atlas_search_search_search_rows_Slot(slice_Slot entries, const atlas_search_Table *table, atlas_search_Mask rows,
-        uint64_t first, uint64_t end, atlas_search_Best *best) {
-    atlas_search_Mask mask_7;
-    uint64_t n_8;
-    atlas_search_Mask mask_9;
-    Option_u64 option_10;
-    atlas_search_Mask mask_12;
-    atlas_search_Mask mask_13;
-    mask_7 = rows;
+SMALL void atlas_search_search_search_rows_Slot(slice_Slot entries, const atlas_search_Table *table, const atlas_search_Scale *options,
+        atlas_search_Mask rows, uint64_t first, uint64_t end, atlas_search_Best *best) {
+    atlas_search_Mask mask_8;
+    uint64_t n_9;
+    atlas_search_Mask mask_10;
+    atlas_search_Mask mask_11;
+    Option_u64 option_12;
+    atlas_search_Mask mask_14;
+    atlas_search_Mask mask_15;
+    mask_8 = rows;
     for (;;) {
-        option_10 = atlas_search_masks_Mask_take_first(&mask_7);
-        if (option_10.tag == 1u /* Some */) {
-            n_8 = option_10.Some.field_0;
-            mask_13 = atlas_search_table_Table_row(table, n_8);
-            mask_12 = atlas_search_masks_Mask_from(mask_13, first);
-            mask_9 = atlas_search_masks_Mask_below(mask_12, end);
-            atlas_search_search_search_row_Slot(entries, table, n_8, mask_9, best);
+        option_12 = atlas_search_masks_Mask_take_first(&mask_8);
+        if (option_12.tag == 1u /* Some */) {
+            n_9 = option_12.Some.field_0;
+            mask_15 = atlas_search_table_Table_row(table, n_9);
+            mask_14 = atlas_search_masks_Mask_from(mask_15, first);
+            mask_10 = atlas_search_masks_Mask_below(mask_14, end);
+            mask_11 = atlas_search_search_near(options, n_9, mask_10, best);
+            atlas_search_search_search_row_Slot(entries, table, n_9, mask_11, best);
         } else {
             break;
         }
@@ -30304,20 +30311,22 @@ SMALL void atlas_search_search_search_few_Slot(slice_Slot entries, const atlas_s
     uint64_t n_6;
     uint64_t n_7;
     uint64_t n_8;
-    uint64_t n_10;
-    atlas_search_Link link_12;
+    uint64_t n_9;
+    uint64_t n_12;
+    atlas_search_Link link_14;
     n_5 = 0u;
+    n_9 = core_int_usize_min(8u, entries.len);
     for (;;) {
-        if (!(n_5 < 8u)) {
+        if (!(n_5 < n_9)) {
             break;
         }
         n_6 = atlas_search_table_Table_list_of_few(table, n_5);
         n_7 = n_6 / 52u;
         n_8 = n_6 % 52u;
-        n_10 = core_int_usize_max(n_7, n_8);
-        if (n_10 < end) {
-            link_12 = atlas_search_table_Table_head(table, new_atlas_search_Place(n_7, n_8));
-            atlas_search_search_show_list_Slot(entries, link_12, best);
+        n_12 = core_int_usize_max(n_7, n_8);
+        if (n_12 < end) {
+            link_14 = atlas_search_table_Table_head(table, new_atlas_search_Place(n_7, n_8));
+            atlas_search_search_show_list_Slot(entries, link_14, best);
         }
         n_5 = n_5 + 1u;
     }
@@ -30674,27 +30683,28 @@ SMALL void std_alloc_vec_Vec_truncate_within_FreeBox(Vec_Slot *self, uint64_t n)
  * free. Answers whether it saw that no list to the right and below has a slot.
  * crates/atlas_search/src/search.rt
  */
-SMALL bool atlas_search_search_search_before_FreeBox(slice_FreeBox entries, const atlas_search_Table *table, atlas_search_Place own,
-        atlas_search_Mask columns, atlas_search_Mask rows, uint64_t end, atlas_search_Best *best) {
-    uint64_t n_8;
-    atlas_search_Mask mask_9;
-    atlas_search_Mask mask_11;
-    atlas_search_Mask mask_18;
-    atlas_search_Mask mask_20;
+SMALL bool atlas_search_search_search_before_FreeBox(slice_FreeBox entries, const atlas_search_Table *table,
+        const atlas_search_Scale *options, atlas_search_Place own, atlas_search_Mask columns, atlas_search_Mask rows, uint64_t end,
+        atlas_search_Best *best) {
+    uint64_t n_9;
+    atlas_search_Mask mask_10;
+    atlas_search_Mask mask_12;
+    atlas_search_Mask mask_19;
     atlas_search_Mask mask_21;
-    mask_11 = atlas_search_masks_Mask_below(columns, end);
-    atlas_search_search_search_row_FreeBox(entries, table, own.row, mask_11, best);
-    mask_18 = atlas_search_masks_Mask_below(rows, end);
-    atlas_search_search_search_column_FreeBox(entries, table, own.column, mask_18, best);
+    atlas_search_Mask mask_22;
+    mask_12 = atlas_search_masks_Mask_below(columns, end);
+    atlas_search_search_search_row_FreeBox(entries, table, own.row, mask_12, best);
+    mask_19 = atlas_search_masks_Mask_below(rows, end);
+    atlas_search_search_search_column_FreeBox(entries, table, own.column, mask_19, best);
     if (atlas_search_best_Best_has_equal_side(best)) {
         return false;
     }
-    n_8 = own.column + 1u;
-    mask_20 = atlas_search_search_rows_with(table, n_8, 52u);
-    mask_9 = atlas_search_masks_Mask_from(mask_20, own.row + 1u);
-    mask_21 = atlas_search_masks_Mask_below(mask_9, end);
-    atlas_search_search_search_rows_FreeBox(entries, table, mask_21, n_8, end, best);
-    return atlas_search_masks_Mask_is_empty(mask_9);
+    n_9 = own.column + 1u;
+    mask_21 = atlas_search_search_rows_with(table, n_9, 52u);
+    mask_10 = atlas_search_masks_Mask_from(mask_21, own.row + 1u);
+    mask_22 = atlas_search_masks_Mask_below(mask_10, end);
+    atlas_search_search_search_rows_FreeBox(entries, table, options, mask_22, n_9, end, best);
+    return atlas_search_masks_Mask_is_empty(mask_10);
 }
 
 /* crates/guillotiere/src/simple/boxes.rt */
@@ -30708,34 +30718,34 @@ SMALL atlas_model_Rectangle guillotiere_simple_boxes_FreeBoxEntry_rectangle(cons
 COLD Option_Found atlas_search_search_pick_few_FreeBox(slice_FreeBox entries, const atlas_search_Table *table,
         const atlas_search_Scale *options, atlas_model_Size size) {
     atlas_search_Place place_5;
-    bool is_6;
-    uint64_t n_7;
+    uint64_t n_6;
+    bool is_7;
     uint64_t n_8;
-    atlas_search_Best best_9;
-    atlas_search_Link link_10;
-    atlas_model_Rectangle rectangle_11;
-    uint64_t n_12;
+    uint64_t n_9;
+    atlas_search_Best best_10;
+    atlas_search_Link link_11;
+    atlas_model_Rectangle rectangle_12;
     uint64_t n_13;
     Option_Link option_18;
     place_5 = atlas_search_bands_Scale_place_for(options, size);
-    n_12 = core_int_usize_max(place_5.row, place_5.column);
+    n_6 = core_int_usize_max(place_5.row, place_5.column);
     n_13 = atlas_search_bands_Scale_large(options);
-    n_7 = 0u;
-    is_6 = n_13 <= n_12;
+    n_8 = n_6;
+    is_7 = n_13 <= n_6;
     for (;;) {
-        if (!(n_7 < 52u)) {
+        if (!(n_8 < 52u)) {
             break;
         }
-        n_8 = atlas_search_bands_Scale_end_after(options, n_7);
-        best_9 = atlas_search_best_Best_new(size, is_6);
-        atlas_search_search_search_few_FreeBox(entries, table, n_8, &best_9);
-        option_18 = atlas_search_best_Best_found(&best_9);
+        n_9 = atlas_search_bands_Scale_end_after(options, n_8);
+        best_10 = atlas_search_best_Best_new(size, is_7);
+        atlas_search_search_search_few_FreeBox(entries, table, n_9, &best_10);
+        option_18 = atlas_search_best_Best_found(&best_10);
         if (option_18.tag == 1u /* Some */) {
-            link_10 = option_18.Some.field_0;
-            rectangle_11 = guillotiere_simple_boxes_FreeBoxEntry_rectangle(((guillotiere_FreeBox *)entries.at + (uint64_t)link_10.number));
-            return new_Option_Found_Some(new_atlas_search_Found(rectangle_11, link_10));
+            link_11 = option_18.Some.field_0;
+            rectangle_12 = guillotiere_simple_boxes_FreeBoxEntry_rectangle(((guillotiere_FreeBox *)entries.at + (uint64_t)link_11.number));
+            return new_Option_Found_Some(new_atlas_search_Found(rectangle_12, link_11));
         }
-        n_7 = n_8;
+        n_8 = n_9;
     }
     return new_Option_Found_None();
 }
@@ -35148,6 +35158,27 @@ SMALL void atlas_search_search_search_list_Slot(slice_Slot entries, const atlas_
     atlas_search_search_show_list_Slot(entries, link_6, best);
 }
 
+/* Of the columns of a row those with a list that may hold a better box than the best.
+ * crates/atlas_search/src/search.rt
+ */
+SMALL atlas_search_Mask atlas_search_search_near(const atlas_search_Scale *options, uint64_t row, atlas_search_Mask columns,
+        const atlas_search_Best *best) {
+    atlas_model_Size size_5;
+    atlas_search_Place place_6;
+    Option_Size option_7;
+    option_7 = atlas_search_best_Best_farthest(best);
+    if (option_7.tag == 1u /* Some */) {
+        size_5 = option_7.Some.field_0;
+    } else {
+        return columns;
+    }
+    place_6 = atlas_search_bands_Scale_place_for(options, size_5);
+    if (row <= place_6.row) {
+        return columns;
+    }
+    return atlas_search_masks_Mask_below(columns, place_6.column + 1u);
+}
+
 /* The list that one of the first few slots comes first in, in a table that hasn't grown; LISTS or more if it does in none.
  * crates/atlas_search/src/table.rt
  */
@@ -35537,23 +35568,25 @@ SMALL void atlas_search_search_search_column_FreeBox(slice_FreeBox entries, cons
 /* Shows lists of these rows to a search, from a column on and before another.
  * crates/atlas_search/src/search.rt
  */
-SMALL void atlas_search_search_search_rows_FreeBox(slice_FreeBox entries, const atlas_search_Table *table, atlas_search_Mask rows,
-        uint64_t first, uint64_t end, atlas_search_Best *best) {
-    atlas_search_Mask mask_7;
-    uint64_t n_8;
-    atlas_search_Mask mask_9;
-    Option_u64 option_10;
-    atlas_search_Mask mask_12;
-    atlas_search_Mask mask_13;
-    mask_7 = rows;
+SMALL void atlas_search_search_search_rows_FreeBox(slice_FreeBox entries, const atlas_search_Table *table,
+        const atlas_search_Scale *options, atlas_search_Mask rows, uint64_t first, uint64_t end, atlas_search_Best *best) {
+    atlas_search_Mask mask_8;
+    uint64_t n_9;
+    atlas_search_Mask mask_10;
+    atlas_search_Mask mask_11;
+    Option_u64 option_12;
+    atlas_search_Mask mask_14;
+    atlas_search_Mask mask_15;
+    mask_8 = rows;
     for (;;) {
-        option_10 = atlas_search_masks_Mask_take_first(&mask_7);
-        if (option_10.tag == 1u /* Some */) {
-            n_8 = option_10.Some.field_0;
-            mask_13 = atlas_search_table_Table_row(table, n_8);
-            mask_12 = atlas_search_masks_Mask_from(mask_13, first);
-            mask_9 = atlas_search_masks_Mask_below(mask_12, end);
-            atlas_search_search_search_row_FreeBox(entries, table, n_8, mask_9, best);
+        option_12 = atlas_search_masks_Mask_take_first(&mask_8);
+        if (option_12.tag == 1u /* Some */) {
+            n_9 = option_12.Some.field_0;
+            mask_15 = atlas_search_table_Table_row(table, n_9);
+            mask_14 = atlas_search_masks_Mask_from(mask_15, first);
+            mask_10 = atlas_search_masks_Mask_below(mask_14, end);
+            mask_11 = atlas_search_search_near(options, n_9, mask_10, best);
+            atlas_search_search_search_row_FreeBox(entries, table, n_9, mask_11, best);
         } else {
             break;
         }
@@ -35569,20 +35602,22 @@ SMALL void atlas_search_search_search_few_FreeBox(slice_FreeBox entries, const a
     uint64_t n_6;
     uint64_t n_7;
     uint64_t n_8;
-    uint64_t n_10;
-    atlas_search_Link link_12;
+    uint64_t n_9;
+    uint64_t n_12;
+    atlas_search_Link link_14;
     n_5 = 0u;
+    n_9 = core_int_usize_min(8u, entries.len);
     for (;;) {
-        if (!(n_5 < 8u)) {
+        if (!(n_5 < n_9)) {
             break;
         }
         n_6 = atlas_search_table_Table_list_of_few(table, n_5);
         n_7 = n_6 / 52u;
         n_8 = n_6 % 52u;
-        n_10 = core_int_usize_max(n_7, n_8);
-        if (n_10 < end) {
-            link_12 = atlas_search_table_Table_head(table, new_atlas_search_Place(n_7, n_8));
-            atlas_search_search_show_list_FreeBox(entries, link_12, best);
+        n_12 = core_int_usize_max(n_7, n_8);
+        if (n_12 < end) {
+            link_14 = atlas_search_table_Table_head(table, new_atlas_search_Place(n_7, n_8));
+            atlas_search_search_show_list_FreeBox(entries, link_14, best);
         }
         n_5 = n_5 + 1u;
     }
@@ -39818,6 +39853,28 @@ SMALL atlas_search_Link atlas_search_table_Table_stored_head(const atlas_search_
     const atlas_search_Link *at_3;
     at_3 = std_alloc_vec_derefs_VecIndexUsize_index_Link(&self->heads, (52u * at.row) + at.column);
     return *at_3;
+}
+
+/* A size such that no box is better than the best that is both wider and higher; None as long as none is known, where the
+ * request is large and the best has no equal side, and where a side may pass what an `i32` can hold.
+ * crates/atlas_search/src/best.rt
+ */
+SMALL Option_Size atlas_search_best_Best_farthest(const atlas_search_Best *self) {
+    uint32_t n_10;
+    uint32_t n_17;
+    if (1073741824u <= self->reach) {
+        return new_Option_Size_None();
+    }
+    if (!((int32_t)1073741824u <= (int32_t)self->size.width)) {
+        if (!((int32_t)1073741824u <= (int32_t)self->size.height)) {
+            goto after_2;
+        }
+    }
+    return new_Option_Size_None();
+after_2:;
+    n_17 = atlas_search_best_longer(self->size.width, self->reach);
+    n_10 = atlas_search_best_longer(self->size.height, self->reach);
+    return new_Option_Size_Some(new_atlas_model_Size(n_17, n_10));
 }
 
 /* Shows an entry to a search. Answers whether one that hangs below it may be better: where it is a fork, since else those have
@@ -44624,6 +44681,13 @@ SMALL atlas_search_Pair atlas_search_heap_in_order_Slot(slice_Slot entries, atla
         pair_7 = new_atlas_search_Pair(one, other);
     }
     return pair_7;
+}
+
+/* A side, and so much more.
+ * crates/atlas_search/src/best.rt
+ */
+SMALL uint32_t atlas_search_best_longer(uint32_t side, uint32_t more) {
+    return side + more;
 }
 
 /* The `min` of a box as one number, the greater the later the box comes: the y, and below it the x.
