@@ -1,5 +1,5 @@
 -- Pages of which one changes, one comes last, or the last ones go.
-use Rattle.std.proofs.Common.{◌≡◌, ◌<◌, ◌≤◌, ◌+◌, ◌++◌, ◌∷◌, ◌∙◌, ◌==◌, [], ℕ, zero, suc, List, Option, Some, None, Ok, Err, length}
+use Rattle.std.proofs.Common.{◌≡◌, ◌≢◌, ◌<◌, ◌≤◌, ◌+◌, ◌++◌, ◌∷◌, ◌∙◌, ◌==◌, [], ℕ, zero, suc, List, Option, Some, None, Ok, Err, length}
 use Rattle.std.proofs.Common.{Result, IfErr, OnErr, OnOk, get_or, slice_get, slice_set, option_map, take}
 use Rattle.std.proofs.Common.{refl, sym, ap, subst, arith, inl, inr, length-append}
 use Rattle.std.specs.Prelude.{find, max, IfOk, IfSome}
@@ -17,7 +17,7 @@ use Rattle.guillotiere.specs.declared.Rectangle.{Rectangle}
 use Rattle.guillotiere.specs.declared.Size.{Size}
 use Rattle.guillotiere.specs.Boxes.{Fits}
 use Rattle.guillotiere.specs.Callers.{rectangle_in, AddsBox, HasFrame, HasSameBoxes, IsGranted, IsShortage, KeepsAll, KeepsFrame}
-use Rattle.guillotiere.specs.Pages.{rectangle_on, AddsBoxOn, HasRoomOn, HasSameRectangles, IsAnswerOn}
+use Rattle.guillotiere.specs.Pages.{rectangle_on, AddsBoxOn, HasSameRectangles, IsAnswerOn}
 use Rattle.guillotiere.specs.Pages.{KeepsPages, LeavesNoBoxOn, NoneHasRoomBelow}
 use Rattle.guillotiere.specs.Pixels.{box_of, options_of, sides_of, size_of}
 use Rattle.guillotiere.specs.Choice.{HasNoRoom}
@@ -164,9 +164,6 @@ module _ (request : Size) (s : PagedState) (page : ℕ) (within : page < length 
     | inr past ↦ let beyond = past.0 in absurd (omega (arith, within))
   ]
 
-  pub not_none : HasRoomOn request s.pages page → IsAnswerOn s.pages page request (Ok None) → ⊥
-  not_none room answer = answer page_there.0 page_there.1 (room page_there.0 page_there.1)
-
   pub is_short : (e : AtlasError) → IsAnswerOn s.pages page request (Err e) → IsShortage e
   is_short e answer = (answer page_there.0 page_there.1).0
 
@@ -297,11 +294,19 @@ leaves_off_pages pages page id past = record {
 abbrev Answer : Type 0
 Answer = Result (Option Allocation) AtlasError
 
+-- Where a page has no room, and none before it, none up to it has.
+pub none_more : (request : Size) (pages : List AtlasValue) (page : ℕ) → NoneHasRoomBelow request pages page
+    → IsAnswerOn pages page request (Ok None) → NoneHasRoomBelow request pages (page + 1)
+none_more request pages page none answer k s below there room = elim (eqb_tells k page) [
+  | inl here ↦ answer s (subst (λ n. slice_get pages n ≡ Some s) here.1 there) room
+  | inr other ↦ none k s (omega (arith, below, other.1)) there room
+]
+
 -- What holds of what is granted.
 abbrev OnGrant : Result (Option PageAllocation) AtlasError → (PageAllocation → Type 0) → Type 0
 OnGrant r P = IfOk r (λ granted. IfSome granted P)
 
--- A request to a page that has room for it, and that no page before has.
+-- The first page that doesn't answer None.
 module _ (s : PagedState) (new : List AtlasValue) (request : Size) (page : ℕ) (within : page < length s.pages) where
   abbrev changed : PagedState
   changed = record s { pages = new }
@@ -339,11 +344,10 @@ module _ (s : PagedState) (new : List AtlasValue) (request : Size) (page : ℕ) 
   there_count (Ok None) same = tt
   there_count (Err e) same = tt
 
-  pub there_some : (r : Answer) → HasRoomOn request s.pages page → IsAnswerOn s.pages page request r
-      → told page r ≡ Ok None → ⊥
-  there_some (Ok (Some a)) room answer same = cc
-  there_some (Ok None) room answer same = not_none request s page within room answer
-  there_some (Err e) room answer same = cc
+  pub there_some : (r : Answer) → r ≢ Ok None → told page r ≡ Ok None → ⊥
+  there_some (Ok (Some a)) some same = cc
+  there_some (Ok None) some same = some refl
+  there_some (Err e) some same = cc
 
   pub there_refused : (r : Answer) → OnErr r (new ≡ s.pages) → OnErr (told page r) (changed ≡ s)
   there_refused (Ok (Some a)) same = tt

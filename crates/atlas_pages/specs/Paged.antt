@@ -1,6 +1,6 @@
 -- Pages of a texture array that come where no other has room, and go where nothing is on them.
-use Rattle.std.specs.Prelude.{◌≡◌, ◌⊎◌, ◌+◌, ◌<◌, ◌≤◌, ◌<ℤ◌, ℕ, List, [], ◌∷◌, ◌++◌}
-use Rattle.std.specs.Prelude.{Option, Result, Ok, Err, None, Some, length, map, slice_get}
+use Rattle.std.specs.Prelude.{◌≡◌, ◌≢◌, ◌⊎◌, ◌+◌, ◌<◌, ◌≤◌, ◌<ℤ◌, ℕ, List, [], ◌∷◌, ◌++◌}
+use Rattle.std.specs.Prelude.{Option, Result, Ok, Err, None, Some, IfOk, IfSome, OnErr, length, map, slice_get}
 use Rattle.guillotiere.specs.declared.Allocation.{Allocation}
 use Rattle.guillotiere.specs.declared.AllocatorOptions.{AllocatorOptions}
 use Rattle.guillotiere.specs.declared.AtlasError.{AtlasError}
@@ -10,9 +10,9 @@ use Rattle.guillotiere.specs.declared.Size.{Size}
 use Rattle.guillotiere.specs.Boxes.{Fits, IsPositive, Sides}
 use Rattle.guillotiere.specs.Callers.{AddsBox, HasFrame, IsGranted, KeepsAll}
 use Rattle.guillotiere.specs.Choice.{AreValid, HasNoRoom, Options}
-use Rattle.guillotiere.specs.Pages.{HasSameRectangles, KeepsPages, NoneHasRoomBelow}
+use Rattle.guillotiere.specs.Pages.{AddsBoxOn, HasSameRectangles, IsAnswerOn, KeepsPages, NoneHasRoomBelow}
 use Rattle.guillotiere.specs.Pixels.{box_of, options_of, sides_of, size_of}
-use Rattle.guillotiere.specs.Replies.{grant_of, IsExact}
+use Rattle.guillotiere.specs.Replies.{allocate_reply, grant_of, IsExact}
 use Rattle.guillotiere.specs.States.{State, free_in, live_in, started}
 use Rattle.guillotiere.specs.Steps.{AtlasCall, AtlasReply, Step}
 use Rattle.guillotiere.specs.Steps.AtlasCall.{Allocate, Grow}
@@ -92,6 +92,17 @@ abbrev pub told : (page : ℕ) → Result (Option Allocation) AtlasError → Res
 told page (Ok (Some a)) = Ok (Some (record { page = page; id = a.id; rectangle = a.rectangle }))
 told page (Ok None) = Ok None
 told page (Err e) = Err e
+
+-- The pages before this one have no room for a request, and this is its answer: it grants it, or refuses it by an error.
+pub record IsFirstAnswer (old new : List AtlasValue) (request : Size) (page : ℕ) (result : Result (Option Allocation) AtlasError)
+    : Type 0 where
+  pub inside : page < length old
+  pub first : NoneHasRoomBelow request old page
+  pub some : result ≢ Ok None
+  pub step : StepsAt old new page (Allocate (sides_of request)) (allocate_reply result)
+  pub adds : IfOk result (λ granted. IfSome granted (λ a. AddsBoxOn old new page a.id a.rectangle))
+  pub answer : IsAnswerOn old page request result
+  pub refused : OnErr result (new ≡ old)
 
 -- Why a request to a page that is to be added is refused: its atlas refuses it, or memory for the page is refused.
 abbrev pub IsNewFault : (empty : State) → (request : Size) → AtlasError → Type 0

@@ -4,7 +4,7 @@ ghost use Rattle.std.specs.Prelude.{IfErr, IfOk, IfSome, IsOkUnless, IsSome, Non
 ghost use Rattle.guillotiere.specs.Boxes.{IsPositive};
 ghost use Rattle.guillotiere.specs.Callers.{IsShortage};
 ghost use Rattle.guillotiere.specs.Choice.{AreValid};
-ghost use Rattle.guillotiere.specs.Pages.{rectangle_on, AddsBoxOn, AllLieApartOn, AllLieWithinOn, HasRoomOn};
+ghost use Rattle.guillotiere.specs.Pages.{rectangle_on, AddsBoxOn, AllLieApartOn, AllLieWithinOn};
 ghost use Rattle.guillotiere.specs.Pages.{HasSameRectangles, LeavesNoBoxOn, NoneHasRoomBelow};
 ghost use Rattle.guillotiere.specs.Pixels.{box_of, options_of, sides_of};
 ghost use Rattle.guillotiere.specs.Steps.AtlasCall.{Allocate, Clear, Deallocate, Grow};
@@ -20,9 +20,9 @@ mod steps;
 
 use crate::error::PagesError;
 use crate::paged::steps::{
-    add_page, busy_pages, check_start, clear_list, free_at, grant_at, grow_at,
+    add_page, busy_pages, check_start, clear_list, free_at, grant_first, grow_at,
 };
-use guillotiere::pages::{page_with_room, prove_page};
+use guillotiere::pages::prove_page;
 use guillotiere::{
     AllocId, Allocation, AllocatorOptions, AtlasAllocator, AtlasError, DEFAULT_OPTIONS, Rectangle,
     Size,
@@ -185,8 +185,8 @@ impl<A: Allocator + Copy> PagedAtlas<A> {
 
     /// Grants a request on the first page that has room for it. Where none has, a page is added. None if then there are as many
     /// pages as there may be, or if the request has no room on an empty page. `Slots` if the page has too few of them, `Memory` if
-    /// memory is refused. Unless something is granted, nothing changes. One search on each page up to that one, and
-    /// there the request; where none has room, the making of a page.
+    /// memory is refused. Unless something is granted, nothing changes. One request of each page up to that one; where none has room, the
+    /// making of a page.
     pub fn allocate(&mut self, size: Size) -> Result<Option<PageAllocation>, AtlasError>
         ensures step { IfOk result (λ granted. IfSome granted (λ a.
             StepsOn self.old self.new a.page (Allocate (sides_of size)) (Allocated (grant a.id (box_of a.rectangle))))) }
@@ -203,38 +203,10 @@ impl<A: Allocator + Copy> PagedAtlas<A> {
         ensures fault { IfErr result (IsRefusedOn size self.old) }
         ensures errors { IfErr result IsShortage }
     {
-        match page_with_room(&self.pages, size) {
-            Some(page) => self.allocate_there(page, size),
+        match grant_first(&mut self.pages, size) {
+            Some((page, answer)) => at_page(page, self.most, answer),
             None => self.allocate_anew(size),
         }
-    }
-
-    // The same on a page that has room.
-    fn allocate_there(
-        &mut self,
-        page: usize,
-        size: Size,
-    ) -> Result<Option<PageAllocation>, AtlasError>
-        requires inside { page < length self.old.pages }
-        requires room { HasRoomOn size self.old.pages page }
-        requires first { NoneHasRoomBelow size self.old.pages page }
-        ensures step { IfOk result (λ granted. IfSome granted (λ a.
-            StepsOn self.old self.new a.page (Allocate (sides_of size)) (Allocated (grant a.id (box_of a.rectangle))))) }
-        ensures adds { IfOk result (λ granted. IfSome granted (λ a.
-            AddsBoxOn self.old.pages self.new.pages a.page a.id a.rectangle)) }
-        ensures granted { IfOk result (λ granted. IfSome granted (λ a. IsGrantedOn self.old size a.page a.rectangle)) }
-        ensures first { IfOk result (λ granted. IfSome granted (λ a. NoneHasRoomBelow size self.old.pages a.page)) }
-        ensures count { IfOk result (λ granted. IfSome granted (λ a.
-            length self.new.pages ≡ max (length self.old.pages) (a.page + 1))) }
-        ensures spent { result ≡ Ok None → AreSpent size self.old }
-        ensures settings { KeepsSettings self.old self.new }
-        ensures none { result ≡ Ok None → self.new ≡ self.old }
-        ensures refused { OnErr result (self.new ≡ self.old) }
-        ensures fault { IfErr result (IsRefusedOn size self.old) }
-        ensures errors { IfErr result IsShortage }
-    {
-        let answer = grant_at(&mut self.pages, page, size);
-        at_page(page, self.most, answer)
     }
 
     // The same on a page that is added.

@@ -16,6 +16,7 @@ pub mod Windows
 pub mod ItemPicks
 pub mod BlankHeads
 pub mod FewHeads
+pub mod FirstBoxes
 pub mod FewLists
 pub mod Heaps
 pub mod Cells

@@ -115,6 +115,16 @@ abbrev pub AreNoneApart : List Link → (own : Place) → Type 0
 AreNoneApart heads own =
     (i j : ℕ) → own.row < i → i < 52 → own.column < j → j < 52 → is_used_at heads (52 * i + j) ≡ true → ⊥
 
+-- A list to the right of a place and below it has a slot.
+pub record IsUsedBeyond (heads : List Link) (own : Place) : Type 0 where
+  pub i : ℕ
+  pub j : ℕ
+  pub below : own.row < i
+  pub right : own.column < j
+  pub row : i < 52
+  pub column : j < 52
+  pub used : is_used_at heads (52 * i + j) ≡ true
+
 -- Of the lists with a slot in a place's row and column, those from the place on that stand in a row or column or after
 -- it are left: the columns of the first, and the rows of the others.
 pub record AreLeft (heads : List Link) (own : Place) (least : ℕ) (columns rows : Mask) : Type 0 where

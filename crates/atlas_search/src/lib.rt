@@ -8,6 +8,7 @@ pub mod best;
 pub mod cells;
 pub mod choice;
 pub mod cut;
+pub mod glance;
 pub mod heap;
 pub mod link;
 pub mod marks;

@@ -349,3 +349,17 @@ found-room v a request size sized (Some p) none some = (
   }),
   (λ room. refl),
 )
+
+-- So it has where that was seen at once.
+pub room-at_once : (v : Stored) (a : IsAtlas v) (request : Sides) (size : Size)
+    → CanBeRounded (options_of v.shelf.options) request
+    × (size ≡ size_of (rounded (options_of v.shelf.options) request))
+    → ((free : List Box) → AreFreeBoxes (nodes v.shelf.slots) free → (b : Box) × IsFitting free (sides_of size) b)
+    → HasRoom (free_in (now v a request)) (options_of v.shelf.options) request
+room-at_once v a request size sized fits =
+    let found = fits (free_in (now v a request)) (free_here v a request) in
+    record {
+      positive = sized.0.positive;
+      box = found.0;
+      fitting = subst (λ (r : Sides). IsFitting (free_in (now v a request)) r found.0) (sides_of-size size _ sized.1) found.1;
+    }

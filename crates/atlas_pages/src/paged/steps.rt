@@ -1,9 +1,10 @@
 //! Steps along pages.
 ghost use Rattle.std.specs.Prelude.{◌≡◌, ◌≤◌, ◌<◌, ◌↔◌, ℕ, length, IfErr, IfOk, IfSome, IsOkUnless, IsSome, None, Ok, OnErr, OnOk};
+ghost use Rattle.std.specs.Prelude.{IsTrue};
 ghost use Rattle.guillotiere.specs.Boxes.{IsPositive};
 ghost use Rattle.guillotiere.specs.Callers.{HasFrame, IsAnswer, IsGranted, KeepsAll, KeepsFrame};
 ghost use Rattle.guillotiere.specs.Choice.{AreValid, HasNoRoom};
-ghost use Rattle.guillotiere.specs.Pages.{rectangle_on, AddsBoxOn, IsAnswerOn, LeavesNoBoxOn};
+ghost use Rattle.guillotiere.specs.Pages.{rectangle_on, AddsBoxOn, IsAnswerOn, LeavesNoBoxOn, NoneHasRoomBelow};
 ghost use Rattle.guillotiere.specs.Pixels.{options_of, sides_of};
 ghost use Rattle.guillotiere.specs.Replies.{allocate_reply, done_reply, grant_of};
 ghost use Rattle.guillotiere.specs.States.{free_in, started};
@@ -11,7 +12,8 @@ ghost use Rattle.guillotiere.specs.Steps.{Step};
 ghost use Rattle.guillotiere.specs.Steps.AtlasCall.{Allocate, Clear, Deallocate, Grow};
 ghost use Rattle.guillotiere.specs.Steps.AtlasReply.{Allocated, Done, Refused};
 ghost use Rattle.guillotiere.specs.Stored.{state_of};
-ghost use Rattle.atlas_pages.specs.Paged.{page_sizes, AreIdleAmong, GrowsOn, IsFirstOn, IsGrowthFault, IsLastBusy, IsOptionsFault};
+ghost use Rattle.atlas_pages.specs.Paged.{page_sizes, AreIdleAmong, GrowsOn, IsFirstAnswer, IsFirstOn, IsGrowthFault, IsLastBusy};
+ghost use Rattle.atlas_pages.specs.Paged.{IsOptionsFault};
 ghost use Rattle.atlas_pages.specs.Paged.{IsGrowthFaultIn, IsIdle, IsNewFault, JoinsPage, StepsAt};
 
 use crate::error::PagesError;
@@ -46,6 +48,7 @@ pub(crate) fn grant_on<A: Allocator + Copy>(
     ensures adds { IfOk result (λ granted. IfSome granted (λ a.
         AddsBoxOn pages.old pages.new page a.id a.rectangle)) }
     ensures answer { IsAnswerOn pages.old page size result }
+    ensures none { result ≡ Ok None → pages.new ≡ pages.old }
     ensures refused { OnErr result (pages.new ≡ pages.old) }
     ensures length { length pages.new ≡ length pages.old }
 {
@@ -80,10 +83,41 @@ pub(crate) fn grant_at<A: Allocator + Copy>(
     ensures adds { IfOk result (λ granted. IfSome granted (λ a.
         AddsBoxOn pages.old.items pages.new.items page a.id a.rectangle)) }
     ensures answer { IsAnswerOn pages.old.items page size result }
+    ensures none { result ≡ Ok None → pages.new.items ≡ pages.old.items }
     ensures refused { OnErr result (pages.new.items ≡ pages.old.items) }
     ensures length { length pages.new.items ≡ length pages.old.items }
 {
     grant_on(pages, page, size)
+}
+
+// Whether a page has no room for a request.
+fn is_nothing(answer: &Result<Option<Allocation>, AtlasError>) -> bool
+    ensures { IsTrue result ↔ (answer.now ≡ Ok None) }
+{
+    match answer {
+        Ok(None) => true,
+        _ => false,
+    }
+}
+
+// Asks one page after another for a box. The first that grants it, or refuses it by an error, and its answer; None if no page has room, and
+// then nothing changes.
+pub(crate) fn grant_first<A: Allocator + Copy>(
+    pages: &mut Vec<AtlasAllocator<A>, A>,
+    size: Size,
+) -> Option<(usize, Result<Option<Allocation>, AtlasError>)>
+    ensures some { IfSome result (λ it. IsFirstAnswer pages.old.items pages.new.items size it.0 it.1) }
+    ensures none { result ≡ None → NoneHasRoomBelow size pages.old.items (length pages.old.items) }
+    ensures stays { result ≡ None → pages.new.items ≡ pages.old.items }
+    ensures length { length pages.new.items ≡ length pages.old.items }
+{
+    for page in 0..pages.len() {
+        let answer = grant_at(pages, page, size);
+        if !is_nothing(&answer) {
+            return Some((page, answer));
+        }
+    }
+    None
 }
 
 // `free_on` in a list.

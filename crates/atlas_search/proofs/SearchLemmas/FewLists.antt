@@ -1,7 +1,7 @@
 -- What a search knows once it was shown the lists of the first few slots.
 use Rattle.std.proofs.Common.{ℕ, ◌≡◌, ◌+◌, ◌*◌, ◌/◌, ◌%◌, ◌<◌, ◌≤◌, ◌==◌, inl, inr, Bool, true, false, ◌&&◌, []}
-use Rattle.std.proofs.Common.{List, length, nat_le, max, min, refl, ap, sym, subst, ◌∙◌, arith}
-use Rattle.std.proofs.lemmas.Bool.{cases_eq, cases_lt, true≢false}
+use Rattle.std.proofs.Common.{List, length, nat_le, max, min, refl, ap, subst, ◌∙◌, arith}
+use Rattle.std.proofs.lemmas.Bool.{cases_eq, cases_lt}
 use Rattle.atlas_model.specs.Boxes.{IsPositive, Sides}
 use Rattle.atlas_model.specs.Choice.{AreValid, Options, class_of}
 use Rattle.atlas_search.specs.declared.best.Best.{Best}
@@ -10,14 +10,12 @@ use Rattle.atlas_search.specs.declared.link.Link.{Link}
 use Rattle.atlas_search.specs.declared.masks.Mask.{Mask}
 use Rattle.atlas_search.specs.Bands.{band_of, start_of}
 use Rattle.atlas_search.specs.Bests.{HasSeen}
-use Rattle.atlas_search.specs.Heaps.{tag_of}
 use Rattle.atlas_search.specs.Items.{Item}
 use Rattle.atlas_search.specs.Lookups.{AreBelow, AreListed, FitsItemsFrom, HasAdded, HasSearched}
 use Rattle.atlas_search.specs.Masks.{has}
 use Rattle.atlas_search.specs.Tables.{head_of, is_used_at}
 use Rattle.atlas_search.proofs.SearchLemmas.AddedLists.{added-next, added-nothing, added-of, added-weaker}
-use Rattle.atlas_search.proofs.SearchLemmas.Heaps.{top-of}
-use Rattle.atlas_search.proofs.SearchLemmas.TableHeads.{no_slot-is}
+use Rattle.atlas_search.proofs.SearchLemmas.FirstBoxes.{first-inside}
 use Rattle.atlas_search.proofs.SearchLemmas.Windows.{fits-reaching, large-law}
 
 -- Lists before a row and a column whose first slot has a number below k.
@@ -54,19 +52,12 @@ module _ (o : Options) (es : List Item) (end : ℕ) (r : Sides) (heads : List Li
           | inr ne ↦ (w.0, omega (arith, w.1, ne))
         ]) before
 
-  -- A list begins with an entry.
-  first-inside : (k : ℕ) → k < 2704 → is_used_at heads k ≡ true → (head_of heads k).number < length es
-  first-inside k below used =
-      let list = a.lists k below in
-      (top-of es (tag_of k) (head_of heads k).number list.0 list.1
-      (λ none. true≢false (sym used ∙ no_slot-is (head_of heads k) none))).inside
-
   pub few-end : ((k : ℕ) → is_used_at heads k ≡ true → (head_of heads k).number < 8) → (n k : ℕ) → n ≡ min 8 (length es) → n ≤ k
       → (s t : Best) → HasAdded o es end r (IsAmong heads end k) s t → HasAdded o es end r (AreBelow end) s t
   few-end slots n k least past s t added =
       added-weaker o es end r heads a (IsAmong heads end k) (AreBelow end) s t
       (λ i j hi hj used w.
-      (w, omega (arith, slots (52 * i + j) used, first-inside (52 * i + j) (omega (arith, hi, hj)) used, least, past))) added
+      (w, omega (arith, slots (52 * i + j) used, first-inside o heads es a (52 * i + j) (omega (arith, hi, hj)) used, least, past))) added
 
 -- A search that was shown all lists before a row and a column.
 pub searched-few : (o : Options) (es : List Item) (end : ℕ) (r : Sides) (s t : Best)

@@ -1,6 +1,6 @@
 //! What a request takes of a store: its size rounded, the free slot, and memory for more slots.
 ghost use Rattle.std.specs.Prelude.{◌≡◌, ◌+◌, ◌<◌, ◌≤◌, ◌⊎◌, List, None, IfSome, OnOk, OnErr, IfErr, Err, SomeIff};
-ghost use Rattle.std.specs.Prelude.{length};
+ghost use Rattle.std.specs.Prelude.{length, true};
 ghost use Rattle.atlas_model.specs.Boxes.{Box, IsPositive};
 ghost use Rattle.atlas_model.specs.Choice.{AreValid, IsFitting, rounded};
 ghost use Rattle.atlas_model.specs.Pixels.{options_of, sides_of, size_of};
@@ -14,6 +14,7 @@ use crate::store::Store;
 use atlas_model::{AtlasError, Size};
 use atlas_search::best::Found;
 use atlas_search::choice::rounded;
+use atlas_search::glance::fits_at_once;
 use atlas_search::search::pick;
 use atlas_search::table::FEW;
 use std::alloc::Allocator;
@@ -41,6 +42,17 @@ impl<A: Allocator> Store<A> {
         ensures some { IfSome result (IsChosen (shelf_of self.now) (sides_of size)) }
     {
         pick(&self.slots, &self.lists, &self.options, size)
+    }
+
+    /// Whether a request of this rounded size fits the first box of its own list, or one of a list to the right and below. Where it
+    /// doesn't, it may fit another free box.
+    pub fn fits_at_once(&self, size: Size) -> bool
+        requires positive { IsPositive (sides_of size) }
+        requires rest { (h : Holding) × IsAtRest (shelf_of self.now) h }
+        ensures { result ≡ true → (free : List Box) → AreFreeBoxes (nodes (shelf_of self.now).slots) free
+            → (b : Box) × IsFitting free (sides_of size) b }
+    {
+        fits_at_once(&self.slots, &self.lists, &self.options, size)
     }
 
     /// Makes room for slots in addition to those in use. `Slots` if there would be more than the limit; `Memory`, if

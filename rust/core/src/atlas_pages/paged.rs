@@ -5,15 +5,15 @@ mod steps;
 
 use crate::atlas_pages::error::PagesError;
 use crate::atlas_pages::paged::steps::{
-    add_page, busy_pages, check_start, clear_list, free_at, grant_at, grow_at,
+    add_page, busy_pages, check_start, clear_list, free_at, grant_first, grow_at,
 };
-use crate::guillotiere::pages::page_with_room;
+use wollemigo_support::prelude::Vec;
+
 use crate::guillotiere::{
     AllocId, Allocation, AllocatorOptions, AtlasAllocator, AtlasError, Rectangle, Size,
     DEFAULT_OPTIONS,
 };
 use wollemigo_support::alloc::{Allocator, Global};
-use wollemigo_support::prelude::Vec;
 
 /// A box on a page of a `PagedAtlas`: the page, counted from 0, and there its id and its rectangle, in pixels.
 #[derive(Clone, Copy, Debug, PartialEq, Eq)]
@@ -117,25 +117,14 @@ impl<A: Allocator + Copy> PagedAtlas<A> {
 
     /// Grants a request on the first page that has room for it. Where none has, a page is added. None if then there are as many
     /// pages as there may be, or if the request has no room on an empty page. `Slots` if the page has too few of them, `Memory` if
-    /// memory is refused. Unless something is granted, nothing changes. One search on each page up to that one, and
-    /// there the request; where none has room, the making of a page.
+    /// memory is refused. Unless something is granted, nothing changes. One request of each page up to that one; where none has room, the
+    /// making of a page.
     #[inline]
     pub fn allocate(&mut self, size: Size) -> Result<Option<PageAllocation>, AtlasError> {
-        match page_with_room(&self.pages, size) {
-            Some(page) => self.allocate_there(page, size),
+        match grant_first(&mut self.pages, size) {
+            Some((page, answer)) => at_page(page, self.most, answer),
             None => self.allocate_anew(size),
         }
-    }
-
-    // The same on a page that has room.
-    #[inline]
-    fn allocate_there(
-        &mut self,
-        page: usize,
-        size: Size,
-    ) -> Result<Option<PageAllocation>, AtlasError> {
-        let answer = grant_at(&mut self.pages, page, size);
-        at_page(page, self.most, answer)
     }
 
     // The same on a page that is added.

@@ -21,12 +21,13 @@ impl<A: Allocator + Copy> AtlasAllocator<A> {
     }
 
     /// Whether a request has room: its size isn't empty and, rounded up, fits a free rectangle. Then `allocate` grants
-    /// it, slots and memory aside; else it answers None. Takes one search, and no memory.
+    /// it, slots and memory aside; else it answers None. Takes a look at the first box of a few lists, and a search only where that
+    /// doesn't show room; no memory.
     #[inline]
     #[must_use]
     pub fn can_fit(&self, requested_size: Size) -> bool {
         match self.store.rounded(requested_size) {
-            Some(size) => self.store.choose(size).is_some(),
+            Some(size) => self.store.fits_at_once(size) || self.store.choose(size).is_some(),
             None => false,
         }
     }

@@ -51,6 +51,31 @@ pub(crate) fn grant_at<A: Allocator + Copy>(
     grant_on(pages, page, size)
 }
 
+// Whether a page has no room for a request.
+#[inline]
+fn is_nothing(answer: &Result<Option<Allocation>, AtlasError>) -> bool {
+    match answer {
+        Ok(None) => true,
+        _ => false,
+    }
+}
+
+// Asks one page after another for a box. The first that grants it, or refuses it by an error, and its answer; None if no page has room, and
+// then nothing changes.
+#[inline]
+pub(crate) fn grant_first<A: Allocator + Copy>(
+    pages: &mut Vec<AtlasAllocator<A>, A>,
+    size: Size,
+) -> Option<(usize, Result<Option<Allocation>, AtlasError>)> {
+    for page in 0..pages.len() {
+        let answer = grant_at(pages, page, size);
+        if !is_nothing(&answer) {
+            return Some((page, answer));
+        }
+    }
+    None
+}
+
 // `free_on` in a list.
 #[inline]
 pub(crate) fn free_at<A: Allocator + Copy>(

@@ -4,6 +4,7 @@
 use crate::atlas_model::{AtlasError, Size};
 use crate::atlas_search::best::Found;
 use crate::atlas_search::choice::rounded;
+use crate::atlas_search::glance::fits_at_once;
 use crate::atlas_search::search::pick;
 use crate::atlas_search::table::FEW;
 use crate::atlas_store::store::Store;
@@ -23,6 +24,14 @@ impl<A: Allocator> Store<A> {
     #[must_use]
     pub fn choose(&self, size: Size) -> Option<Found> {
         pick(&self.slots, &self.lists, &self.options, size)
+    }
+
+    /// Whether a request of this rounded size fits the first box of its own list, or one of a list to the right and below. Where it
+    /// doesn't, it may fit another free box.
+    #[inline]
+    #[must_use]
+    pub fn fits_at_once(&self, size: Size) -> bool {
+        fits_at_once(&self.slots, &self.lists, &self.options, size)
     }
 
     /// Makes room for slots in addition to those in use. `Slots` if there would be more than the limit; `Memory`, if

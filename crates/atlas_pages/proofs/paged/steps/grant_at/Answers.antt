@@ -1,4 +1,4 @@
-use Rattle.std.proofs.Common.{◌≡◌, length, IfOk, IfSome, OnErr}
+use Rattle.std.proofs.Common.{◌≡◌, None, Ok, length, IfOk, IfSome, OnErr}
 use Rattle.guillotiere.specs.Pages.{AddsBoxOn}
 use Rattle.guillotiere.specs.Pixels.{sides_of}
 use Rattle.guillotiere.specs.Replies.{allocate_reply}
@@ -17,6 +17,11 @@ returns-clause-adds g c =
     written c.args.pages.now _ _ c.deref_mut.ensures.value c.grant_on.ensures.length
     (λ old new. IfOk c.grant_on.result (λ granted. IfSome granted (λ a. AddsBoxOn old new c.args.page a.id a.rectangle)))
     c.grant_on.ensures.adds
+
+pub returns-clause-none : goal.returns-clause-none
+returns-clause-none g c =
+    written c.args.pages.now _ _ c.deref_mut.ensures.value c.grant_on.ensures.length
+    (λ old new. c.grant_on.result ≡ Ok None → new ≡ old) c.grant_on.ensures.none
 
 pub returns-clause-refused : goal.returns-clause-refused
 returns-clause-refused g c =

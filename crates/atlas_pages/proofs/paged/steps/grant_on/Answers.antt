@@ -3,7 +3,7 @@ use Rattle.guillotiere.specs.Pixels.{sides_of}
 use Rattle.guillotiere.specs.Replies.{allocate_reply}
 use Rattle.guillotiere.specs.Steps.AtlasCall.{Allocate}
 use Rattle.guillotiere.specs.Stored.{state_of}
-use Rattle.guillotiere.proofs.Callers.{page_answers, page_is, page_stays_if_refused}
+use Rattle.guillotiere.proofs.Callers.{page_answers, page_is, page_stays, page_stays_if_refused}
 use Rattle.atlas_pages.proofs.PagedLemmas.{page_steps}
 use Rattle.atlas_pages.proofs.paged.steps.grant_on.Goals as goal
 
@@ -21,6 +21,10 @@ pub returns-clause-answer : goal.returns-clause-answer
 returns-clause-answer g c =
     page_is _ _ c.index-pages-page.result c.allocate.new.self c.requires
     (λ s. IsAnswer (state_of s) c.args.size c.allocate.result) c.allocate.ensures.answer
+
+pub returns-clause-none : goal.returns-clause-none
+returns-clause-none g c = λ none.
+    page_stays _ _ c.index-pages-page.result _ c.requires (c.allocate.ensures.none none)
 
 pub returns-clause-refused : goal.returns-clause-refused
 returns-clause-refused g c =

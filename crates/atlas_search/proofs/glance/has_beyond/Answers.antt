@@ -1,0 +1,1 @@
+use Rattle.atlas_search.proofs.glance.has_beyond.Goals as goal
