@@ -11,3 +11,5 @@ pub mod SimpleSessions
 pub mod SimpleLists
 pub mod SimpleStarts
 pub mod GrantedBoxes
+pub mod ApartLists
+pub mod ApartBoxes

@@ -1,0 +1,288 @@
+-- A store made of nodes that stand for a tree.
+use Rattle.std.proofs.Common.{
+  ℕ,
+  ◌+◌,
+  ◌<◌,
+  ◌≤◌,
+  ◌≡◌,
+  ◌≢◌,
+  ◌&&◌,
+  Bool,
+  true,
+  false,
+  List,
+  [],
+  ◌∷◌,
+  refl,
+  sym,
+  ap,
+  ap₂,
+  ◌∙◌,
+  if◌then◌else◌,
+  inl,
+  inr,
+  arith,
+  zero,
+  suc,
+  subst,
+  length,
+  map,
+}
+use Rattle.std.proofs.lemmas.Bool.{cases_eq, cases_lt, ne_eqb, true≢false}
+use Rattle.std.proofs.lemmas.List.{length-map}
+use Rattle.atlas_model.specs.declared.options.AllocatorOptions.{AllocatorOptions}
+use Rattle.atlas_model.specs.Choice.{Options}
+use Rattle.atlas_model.specs.Pixels.{options_of}
+use Rattle.atlas_search.specs.declared.link.Link.{Link}
+use Rattle.atlas_search.specs.Numbers.{front, no_slot, occurs, same}
+use Rattle.atlas_search.specs.Tables.{head_of, is_used_at}
+use Rattle.atlas_store.specs.declared.slots.Node.{Node}
+use Rattle.atlas_store.specs.declared.slots.NodeKind.{NodeKind}
+use Rattle.atlas_store.specs.declared.slots.NodeKind.TheVariants as kind
+use Rattle.atlas_store.specs.declared.slots.Ring.{Ring}
+use Rattle.atlas_store.specs.declared.slots.Slot.{Slot}
+use Rattle.atlas_store.specs.Slots.{node_at, node_of, nodes, ring_at, ring_of, rings, use_count}
+use Rattle.atlas_store.specs.Slots.Links.{with_mark}
+use Rattle.atlas_store.specs.Slots.Lists.{AreFiled, Line, Places, filed, is_free}
+use Rattle.atlas_store.specs.Slots.Numbered.{Numbered}
+use Rattle.atlas_store.specs.Slots.Standing.{Sequence}
+use Rattle.atlas_store.specs.Stored.{Holding, Holds, IsDetachedOnly, Shelf}
+use Rattle.atlas_store.specs.Store.Holdings.{IsDetachedLeaf, node_in, with_detached, with_free_lists}
+use Rattle.atlas_store.specs.Store.Restoring.{
+  CanRestore,
+  HoldsSame,
+  IsListedFrom,
+  IsUnusedLine,
+  NodeLine,
+  StandWhole,
+  image_node,
+  made_slot,
+  next_of,
+}
+use Rattle.atlas_store.proofs.SlotLemmas.Frames.{same-ne, used-inside}
+use Rattle.atlas_store.proofs.StoreLemmas.FiledSlots.{with_mark-other, with_mark-same}
+use Rattle.atlas_store.proofs.StoreLemmas.LinkedLists.{linked-none}
+use Rattle.atlas_store.proofs.StoreLemmas.ListedSlots.{recent-none}
+
+-- The nodes of slots that were made of nodes.
+pub made-nodes : (ns : List Node) → nodes (map made_slot ns) ≡ ns
+made-nodes [] = refl
+made-nodes (n ∷ ns) = ap (λ v. n ∷ v) (made-nodes ns)
+
+-- What is on the right of each.
+pub made-right : (ns : List Node) (x : ℕ) → x < length ns
+    → (ring_at (rings (map made_slot ns)) x).right ≡ (node_at ns x).next
+made-right [] x l = absurd (omega arith)
+made-right (n ∷ ns) zero l = refl
+made-right (n ∷ ns) (suc x) l = made-right ns x (omega arith)
+
+pub made-length : (ns : List Node) → length (rings (map made_slot ns)) ≡ length ns
+made-length [] = refl
+made-length (n ∷ ns) = ap suc (made-length ns)
+
+pub made-line : (ns : List Node) (xs : List ℕ) → NodeLine ns xs → Line (rings (map made_slot ns)) xs
+made-line ns [] h = tt
+made-line ns (x ∷ xs) h =
+    (omega (arith, made-length ns, h.0), ap (λ (l : Link). l.number) (made-right ns x h.0) ∙ h.1, made-line ns xs h.2)
+
+none_used : (heads : List Link) (k : ℕ) → is_used_at heads k ≡ false → (head_of heads k).number ≡ no_slot
+none_used heads k e = grind (arith, ne_eqb)
+
+-- Each free slot is detached, and no other.
+abbrev pub free_marks : List Node → ℕ → Bool
+free_marks ns i = is_free (node_at ns i).kind
+
+nowhere_kind : (c : NodeKind) (b : Bool) → (if is_free c then 0 else (if is_free c && b then 1 else 0)) ≡ 0
+nowhere_kind kind.Container b = refl
+nowhere_kind kind.Alloc b = refl
+nowhere_kind kind.Free b = refl
+nowhere_kind kind.Unused b = refl
+
+nowhere : (o : Options) (k : ℕ) (n : Node) → (if is_free n.kind then 0 else filed o k n) ≡ 0
+nowhere o k n = nowhere_kind n.kind _
+
+free_true : (c : NodeKind) → c ≡ kind.Free → is_free c ≡ true
+free_true c e = rw e refl
+
+true_free : (c : NodeKind) → is_free c ≡ true → c ≡ kind.Free
+true_free kind.Container e = absurd (true≢false (sym e))
+true_free kind.Alloc e = absurd (true≢false (sym e))
+true_free kind.Free e = refl
+true_free kind.Unused e = absurd (true≢false (sym e))
+
+-- What the slots hold, before the first free one is listed.
+abbrev pub unlisted_holding : List Node → Sequence → Numbered → List ℕ → Holding
+unlisted_holding ns s n xs =
+    record { sequence = s; tree = n; unused_list = xs; free_lists = λ k. []; detached = free_marks ns }
+
+pub record IsMade (v : Shelf) (ns : List Node) (unused : Link) : Type 0 where
+  pub slots : v.slots ≡ map made_slot ns
+  pub lists : (k : ℕ) → is_used_at v.heads k ≡ false
+  pub unused : v.unused ≡ unused
+  pub recent : v.recent.at.number ≡ no_slot
+
+module _ (v : Shelf) (ns : List Node) (unused : Link) (options : AllocatorOptions) (made : IsMade v ns unused)
+    (can : CanRestore ns unused options) (same_options : v.options ≡ options) where
+  made_filed : (xs : List ℕ) → IsUnusedLine ns unused.number xs
+      → AreFiled (options_of v.options) ns (rings (map made_slot ns)) v.heads v.unused
+      (record { unused_list = xs; free_lists = λ k. []; claimed = λ i. 0; detached = free_marks ns })
+  made_filed xs l =
+      record {
+        free = λ k below. record {
+          links = linked-none ns (rings (map made_slot ns)) k (head_of v.heads k) (none_used v.heads k (made.lists k));
+          each = λ i. sym (nowhere (options_of v.options) k (node_at ns i));
+        };
+        line = made-line ns xs l.line;
+        begins = ap (λ (u : Link). u.number) made.unused ∙ l.begins;
+        each = λ i below. omega (arith, l.each i (omega (arith, made-length ns)));
+      }
+
+  made_holds : (s : Sequence) (n : Numbered) (xs : List ℕ) → StandWhole ns s n → IsUnusedLine ns unused.number xs
+      → Holds v (unlisted_holding ns s n xs)
+  made_holds s n xs t l =
+      let same : nodes v.slots ≡ ns = ap nodes made.slots ∙ made-nodes ns in
+      record {
+        top = t.top;
+        stands = rw same t.stands;
+        filed = rw (same, made.slots) (made_filed xs l);
+        is_recent = recent-none v.recent (λ k. []) made.recent;
+        short = omega (arith, can.short, ap (λ (x : List Node). length x) same, length-map v.slots node_of);
+        valid = rw same_options can.valid;
+        cut = t.cut;
+        wide = t.wide;
+        across = t.across;
+        along = t.along;
+      }
+
+  pub made-unlisted : (s : Sequence) (n : Numbered) (xs : List ℕ) → StandWhole ns s n → IsUnusedLine ns unused.number xs
+      → IsListedFrom 0 v (unlisted_holding ns s n xs)
+  made-unlisted s n xs t l =
+      let same : nodes v.slots ≡ ns = ap nodes made.slots ∙ made-nodes ns in
+      record {
+        holds = made_holds s n xs t l;
+        free = λ k _ e. free_true (node_at ns k).kind (ap (λ x. (node_at x k).kind) (sym same) ∙ e);
+        from = λ k e. omega arith;
+        only = λ k e. ap (λ x. (node_at x k).kind) same ∙ true_free (node_at ns k).kind e;
+      }
+
+-- One slot more is in its list.
+module _ (i : ℕ) (v w : Shelf) (h : Holding) (u : IsListedFrom i v h) (same : nodes w.slots ≡ nodes v.slots) where
+  same_kind : (k : ℕ) → (node_in w k).kind ≡ (node_in v k).kind
+  same_kind k = ap (λ x. (node_at x k).kind) same
+
+  pub listed-more : (free_lists : ℕ → List ℕ) → Holds w (with_detached i false (with_free_lists free_lists h))
+      → IsListedFrom (i + 1) w (with_detached i false (with_free_lists free_lists h))
+  listed-more free_lists holds =
+      record {
+        holds = holds;
+        free = λ k l e.
+            let ne : k ≢ i = omega arith in
+            with_mark-other h.detached i false k ne ∙ u.free k (omega arith) (sym (same_kind k) ∙ e);
+        from = λ k e. (left k e).0;
+        only = λ k e. same_kind k ∙ u.only k (left k e).1;
+      }
+    where
+      left : (k : ℕ) → with_mark h.detached i false k ≡ true → (i + 1 ≤ k) × (h.detached k ≡ true)
+      left k e = elim (cases_eq k i) [
+        | inl q ↦ absurd (true≢false (sym e ∙ ap (with_mark h.detached i false) q ∙ with_mark-same h.detached i false))
+        | inr ne ↦
+            let d : h.detached k ≡ true = sym (with_mark-other h.detached i false k ne) ∙ e in
+            (omega (arith, u.from k d), d)
+      ]
+
+-- A slot that isn't free needs none.
+pub listed-over : (i : ℕ) (v : Shelf) (h : Holding) → IsListedFrom i v h → ((node_in v i).kind ≡ kind.Free → ⊥)
+    → IsListedFrom (i + 1) v h
+listed-over i v h u never =
+    record {
+      holds = u.holds;
+      free = λ k l e. u.free k (omega arith) e;
+      from = λ k e. elim (cases_eq k i) [
+        | inl q ↦ absurd (never (ap (λ x. (node_in v x).kind) (sym q) ∙ u.only k e))
+        | inr ne ↦ omega (arith, u.from k e)
+      ];
+      only = u.only;
+    }
+
+-- Past the last slot all are in their lists.
+pub listed-all : (i : ℕ) (v : Shelf) (h : Holding) → IsListedFrom i v h → length v.slots ≤ i → IsDetachedOnly [] h
+listed-all i v h u l = λ k _. not_true (h.detached k) (λ e.
+    let f : (node_in v k).kind ≡ kind.Free = u.only k e in
+    let inside : k < length (nodes v.slots) = used-inside (nodes v.slots) k (rw f (omega arith)) in
+    absurd (omega (arith, inside, u.from k e, length-map v.slots node_of)))
+  where
+    not_true : (b : Bool) → (b ≡ true → ⊥) → b ≡ false
+    not_true true never = absurd (never refl)
+    not_true false never = refl
+
+-- The unused slots say which comes next.
+line_next : (ns : List Node) (rs : List Ring) (xs : List ℕ) → Line rs xs → NodeLine ns xs → (i : ℕ) → 0 < occurs i xs
+    → (ring_at rs i).right.number ≡ (node_at ns i).next.number
+line_next ns rs [] h g i l = absurd (omega arith)
+line_next ns rs (x ∷ xs) h g i l = elim (cases_eq i x) [
+  | inl e ↦ rw e (h.1 ∙ sym g.1)
+  | inr ne ↦ line_next ns rs xs h.2 g.2 i (omega (arith, same-ne i x ne))
+]
+
+link_same : (a b : Link) → a.number ≡ b.number → a ≡ b
+link_same a b e = ap (λ n. record { number = n }) e
+
+next_by : (c : NodeKind) (s : Slot) → (c ≡ kind.Unused → s.right ≡ s.next) → next_of c s ≡ s.next
+next_by kind.Container s right = refl
+next_by kind.Alloc s right = refl
+next_by kind.Free s right = refl
+next_by kind.Unused s right = right refl
+
+image_self : (s : Slot) → (s.kind ≡ kind.Unused → s.right ≡ s.next) → image_node s ≡ node_of s
+image_self s right = ap (λ l. record (node_of s) { next = l }) (next_by s.kind s right)
+
+-- An unused slot of the list has on its right what its node says comes next.
+abbrev AreRight : List Slot → Type 0
+AreRight ss = (i : ℕ) → i < length ss → (node_at (nodes ss) i).kind ≡ kind.Unused
+    → (ring_at (rings ss) i).right ≡ (node_at (nodes ss) i).next
+
+images_are : (ss : List Slot) → AreRight ss → map image_node ss ≡ nodes ss
+images_are [] right = refl
+images_are (s ∷ ss) right =
+    ap₂ (λ x xs. x ∷ xs) (image_self s (right 0 (omega arith))) (images_are ss (λ i l. right (suc i) (omega arith)))
+
+module _ (v w : Shelf) (ns : List Node) (unused : Link) (options : AllocatorOptions) (made : IsMade v ns unused)
+    (can : CanRestore ns unused options) (same_options : v.options ≡ options) (same_nodes : nodes w.slots ≡ nodes v.slots)
+    (listed : (h : Holding) → IsListedFrom 0 v h → (g : Holding) × Holds w g × IsDetachedOnly [] g × HoldsSame h g) where
+  pub restored-nodes : nodes w.slots ≡ ns
+  restored-nodes = same_nodes ∙ ap nodes made.slots ∙ made-nodes ns
+
+  pub restored-holds : (s : Sequence) (n : Numbered) → StandWhole ns s n
+      → (h : Holding) × Holds w h × IsDetachedOnly [] h × (h.sequence ≡ s) × (h.tree ≡ n)
+  restored-holds s n t =
+      let l = can.line in
+      let r = listed (unlisted_holding ns s n l.0)
+      (made-unlisted v ns unused options made can same_options s n l.0 t l.1) in
+      (r.0, r.1, r.2, r.3.sequence, r.3.tree)
+
+  -- The list of unused slots stays.
+  record IsLineOf (xs : List ℕ) : Type 0 where
+    line : Line (rings w.slots) xs
+    begins : w.unused.number ≡ front xs
+
+  line_kept : IsLineOf can.line.0
+  line_kept =
+      let l = can.line in
+      let t = can.tree in
+      let r = listed (unlisted_holding ns t.0 t.1 l.0)
+      (made-unlisted v ns unused options made can same_options t.0 t.1 l.0 t.2 l.1) in
+      record {
+        line = subst (Line (rings w.slots)) r.3.unused_list r.1.filed.line;
+        begins = r.1.filed.begins ∙ ap front r.3.unused_list;
+      }
+
+  pub restored-unused : w.unused ≡ unused
+  restored-unused = link_same w.unused unused (line_kept.begins ∙ sym can.line.1.begins)
+
+  pub restored-images : map image_node w.slots ≡ ns
+  restored-images = images_are w.slots (λ i l u.
+      let e : (node_at ns i).kind ≡ kind.Unused = ap (λ x. (node_at x i).kind) (sym restored-nodes) ∙ u in
+      let inside : i < length ns = omega (arith, l, ap (λ (x : List Node). length x) restored-nodes, length-map w.slots node_of) in
+      let on : 0 < occurs i can.line.0 = omega (arith, can.line.1.each i inside, ap use_count e) in
+      link_same _ _ (line_next ns (rings w.slots) can.line.0 line_kept.line can.line.1.line i on
+      ∙ ap (λ x. (node_at x i).next.number) (sym restored-nodes))) ∙ restored-nodes
