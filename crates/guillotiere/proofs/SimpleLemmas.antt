@@ -13,3 +13,8 @@ pub mod SimpleStarts
 pub mod GrantedBoxes
 pub mod ApartLists
 pub mod ApartBoxes
+pub mod ApartSteps
+pub mod ApartCrossings
+pub mod ApartTold
+pub mod ApartWithin
+pub mod ImagedBoxes

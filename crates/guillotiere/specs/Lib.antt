@@ -3,6 +3,7 @@ pub mod SimpleSessions
 pub mod SimpleStored
 pub mod FreeBoxes
 pub mod Apart
+pub mod SimpleImages
 pub mod Pages
 pub use Rattle.atlas_store.specs.Stored
 pub use Rattle.atlas_search.specs.Rectangles

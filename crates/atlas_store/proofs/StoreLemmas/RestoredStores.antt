@@ -28,7 +28,7 @@ use Rattle.std.proofs.Common.{
   length,
   map,
 }
-use Rattle.std.proofs.lemmas.Bool.{cases_eq, cases_lt, ne_eqb, true≢false}
+use Rattle.std.proofs.lemmas.Bool.{cases_eq, ne_eqb, true≢false}
 use Rattle.std.proofs.lemmas.List.{length-map}
 use Rattle.atlas_model.specs.declared.options.AllocatorOptions.{AllocatorOptions}
 use Rattle.atlas_model.specs.Choice.{Options}
@@ -41,18 +41,22 @@ use Rattle.atlas_store.specs.declared.slots.NodeKind.{NodeKind}
 use Rattle.atlas_store.specs.declared.slots.NodeKind.TheVariants as kind
 use Rattle.atlas_store.specs.declared.slots.Ring.{Ring}
 use Rattle.atlas_store.specs.declared.slots.Slot.{Slot}
-use Rattle.atlas_store.specs.Slots.{node_at, node_of, nodes, ring_at, ring_of, rings, use_count}
+use Rattle.atlas_store.specs.Slots.{node_at, node_of, nodes, ring_at, rings, use_count}
 use Rattle.atlas_store.specs.Slots.Links.{with_mark}
-use Rattle.atlas_store.specs.Slots.Lists.{AreFiled, Line, Places, filed, is_free}
+use Rattle.atlas_store.specs.Slots.Lists.{AreFiled, Line, filed, is_free}
 use Rattle.atlas_store.specs.Slots.Numbered.{Numbered}
 use Rattle.atlas_store.specs.Slots.Standing.{Sequence}
 use Rattle.atlas_store.specs.Stored.{Holding, Holds, IsDetachedOnly, Shelf}
-use Rattle.atlas_store.specs.Store.Holdings.{IsDetachedLeaf, node_in, with_detached, with_free_lists}
+use Rattle.atlas_store.specs.declared.store.Store.{Store}
+use Rattle.atlas_store.specs.Store.Holdings.{IsDetachedLeaf, OnlyTakes, node_in, shelf_of, with_detached, with_free_lists}
+use Rattle.atlas_store.specs.Store.StoreCalls.{ListsLeaf}
 use Rattle.atlas_store.specs.Store.Restoring.{
   CanRestore,
   HoldsSame,
   IsListedFrom,
+  IsRestored,
   IsUnusedLine,
+  ListsAll,
   NodeLine,
   StandWhole,
   image_node,
@@ -60,9 +64,10 @@ use Rattle.atlas_store.specs.Store.Restoring.{
   next_of,
 }
 use Rattle.atlas_store.proofs.SlotLemmas.Frames.{same-ne, used-inside}
-use Rattle.atlas_store.proofs.StoreLemmas.FiledSlots.{with_mark-other, with_mark-same}
+use Rattle.atlas_store.proofs.StoreLemmas.FiledSlots.{unless_detached, with_mark-other, with_mark-same}
 use Rattle.atlas_store.proofs.StoreLemmas.LinkedLists.{linked-none}
 use Rattle.atlas_store.proofs.StoreLemmas.ListedSlots.{recent-none}
+use Rattle.atlas_store.proofs.StoreLemmas.TakenOnce.{only-takes}
 
 -- The nodes of slots that were made of nodes.
 pub made-nodes : (ns : List Node) → nodes (map made_slot ns) ≡ ns
@@ -92,13 +97,13 @@ none_used heads k e = grind (arith, ne_eqb)
 abbrev pub free_marks : List Node → ℕ → Bool
 free_marks ns i = is_free (node_at ns i).kind
 
-nowhere_kind : (c : NodeKind) (b : Bool) → (if is_free c then 0 else (if is_free c && b then 1 else 0)) ≡ 0
+nowhere_kind : (c : NodeKind) (b : Bool) → unless_detached (is_free c) (if is_free c && b then 1 else 0) ≡ 0
 nowhere_kind kind.Container b = refl
 nowhere_kind kind.Alloc b = refl
 nowhere_kind kind.Free b = refl
 nowhere_kind kind.Unused b = refl
 
-nowhere : (o : Options) (k : ℕ) (n : Node) → (if is_free n.kind then 0 else filed o k n) ≡ 0
+nowhere : (o : Options) (k : ℕ) (n : Node) → unless_detached (is_free n.kind) (filed o k n) ≡ 0
 nowhere o k n = nowhere_kind n.kind _
 
 free_true : (c : NodeKind) → c ≡ kind.Free → is_free c ≡ true
@@ -115,10 +120,10 @@ abbrev pub unlisted_holding : List Node → Sequence → Numbered → List ℕ �
 unlisted_holding ns s n xs =
     record { sequence = s; tree = n; unused_list = xs; free_lists = λ k. []; detached = free_marks ns }
 
-pub record IsMade (v : Shelf) (ns : List Node) (unused : Link) : Type 0 where
+pub record IsMade (v : Shelf) (ns : List Node) (first : Link) : Type 0 where
   pub slots : v.slots ≡ map made_slot ns
   pub lists : (k : ℕ) → is_used_at v.heads k ≡ false
-  pub unused : v.unused ≡ unused
+  pub unused : v.unused ≡ first
   pub recent : v.recent.at.number ≡ no_slot
 
 module _ (v : Shelf) (ns : List Node) (unused : Link) (options : AllocatorOptions) (made : IsMade v ns unused)
@@ -215,6 +220,55 @@ listed-all i v h u l = λ k _. not_true (h.detached k) (λ e.
     not_true true never = absurd (never refl)
     not_true false never = refl
 
+-- The free slots before the i-th are in their lists.
+pub record IsListing {A : Type 0} (first now : Store A) (i : ℕ) : Type 0 where
+  pub listed : (h : Holding) → IsListedFrom 0 (shelf_of first) h
+      → (g : Holding) × IsListedFrom i (shelf_of now) g × HoldsSame h g
+  pub nodes : nodes now.slots.items ≡ nodes first.slots.items
+  pub slots : length now.slots.items ≡ length first.slots.items
+  pub takes : OnlyTakes first now
+
+module _ {A : Type 0} (first old : Store A) (i : ℕ) (l : IsListing first old i) where
+  -- Slot i is listed.
+  pub listing-more : (new : Store A) → (node_in (shelf_of old) i).kind ≡ kind.Free → ListsLeaf old new i
+      → IsListing first new (i + 1)
+  listing-more new free w =
+      record {
+        listed = λ h u.
+            let s = l.listed h u in
+            let leaf : IsDetachedLeaf (shelf_of old) i s.0 = record {
+              holds = s.1.holds;
+              kind = free;
+              detached = s.1.free i (omega arith) free;
+            } in
+            let k = w.kept s.0 leaf in (
+              with_detached i false (with_free_lists k.0 s.0),
+              listed-more i (shelf_of old) (shelf_of new) s.0 s.1 w.nodes k.0 k.1,
+              record { sequence = s.2.sequence; tree = s.2.tree; unused_list = s.2.unused_list },
+            );
+        nodes = w.nodes ∙ l.nodes;
+        slots = w.slots ∙ l.slots;
+        takes = only-takes l.takes w.takes;
+      }
+
+  pub listing-over : ((node_in (shelf_of old) i).kind ≡ kind.Free → ⊥) → IsListing first old (i + 1)
+  listing-over never =
+      record {
+        listed = λ h u. let s = l.listed h u in (s.0, listed-over i (shelf_of old) s.0 s.1 never, s.2);
+        nodes = l.nodes;
+        slots = l.slots;
+        takes = l.takes;
+      }
+
+  pub listing-all : length old.slots.items ≤ i → ListsAll first old
+  listing-all end =
+      record {
+        listed = λ h u. let s = l.listed h u in (s.0, s.1.holds, listed-all i (shelf_of old) s.0 s.1 end, s.2);
+        nodes = l.nodes;
+        slots = l.slots;
+        takes = l.takes;
+      }
+
 -- The unused slots say which comes next.
 line_next : (ns : List Node) (rs : List Ring) (xs : List ℕ) → Line rs xs → NodeLine ns xs → (i : ℕ) → 0 < occurs i xs
     → (ring_at rs i).right.number ≡ (node_at ns i).next.number
@@ -286,3 +340,19 @@ module _ (v w : Shelf) (ns : List Node) (unused : Link) (options : AllocatorOpti
       let on : 0 < occurs i can.line.0 = omega (arith, can.line.1.each i inside, ap use_count e) in
       link_same _ _ (line_next ns (rings w.slots) can.line.0 line_kept.line can.line.1.line i on
       ∙ ap (λ x. (node_at x i).next.number) (sym restored-nodes))) ∙ restored-nodes
+
+-- The store that was made, once its free slots are in their lists.
+pub restored : {A : Type 0} (new : Store A) (v : Shelf) (ns : List Node) (unused : Link) (options : AllocatorOptions)
+    → IsMade v ns unused → CanRestore ns unused options → v.options ≡ options → nodes new.slots.items ≡ nodes v.slots
+    → ((h : Holding) → IsListedFrom 0 v h
+    → (g : Holding) × Holds (shelf_of new) g × IsDetachedOnly [] g × HoldsSame h g)
+    → new.options ≡ v.options → IsRestored new ns unused options
+restored new v ns unused options made can same_options same_nodes listed kept =
+    let w = shelf_of new in
+    record {
+      nodes = restored-nodes v w ns unused options made can same_options same_nodes listed;
+      images = restored-images v w ns unused options made can same_options same_nodes listed;
+      holds = restored-holds v w ns unused options made can same_options same_nodes listed;
+      unused = restored-unused v w ns unused options made can same_options same_nodes listed;
+      options = kept ∙ same_options;
+    }

@@ -1,5 +1,5 @@
 -- A store as plain nodes, and a store made of them. No public clause cites this module, but for the words of an image.
-use Rattle.std.specs.Prelude.{ℕ, ◌+◌, ◌<◌, ◌≤◌, ◌≡◌, ◌^◌, Bool, true, false, List, [], ◌∷◌, length, map}
+use Rattle.std.specs.Prelude.{ℕ, ◌+◌, ◌<◌, ◌≤◌, ◌≡◌, ◌^◌, true, false, List, [], ◌∷◌, length, map}
 use Rattle.atlas_store.specs.declared.store.Store.{Store}
 use Rattle.atlas_store.specs.declared.slots.Slot.{Slot}
 use Rattle.atlas_store.specs.declared.slots.Node.{Node}
@@ -95,11 +95,11 @@ pub record ListsAll {A : Type 0} (old new : Store A) : Type 0 where
   pub takes : OnlyTakes old new
 
 -- The store has these nodes, and each free slot stands in its list.
-pub record IsRestored {A : Type 0} (new : Store A) (ns : List Node) (unused : Link) (options : AllocatorOptions)
+pub record IsRestored {A : Type 0} (new : Store A) (ns : List Node) (first : Link) (given : AllocatorOptions)
     : Type 0 where
   pub nodes : nodes new.slots.items ≡ ns
   pub images : map image_node new.slots.items ≡ ns
   pub holds : (s : Sequence) (n : Numbered) → StandWhole ns s n
       → (h : Holding) × Holds (shelf_of new) h × IsDetachedOnly [] h × (h.sequence ≡ s) × (h.tree ≡ n)
-  pub unused : new.unused ≡ unused
-  pub options : new.options ≡ options
+  pub unused : new.unused ≡ first
+  pub options : new.options ≡ given

@@ -1,6 +1,6 @@
 -- The boxes of a slab are disjoint in it, if those of its halves are.
-use Rattle.std.proofs.Common.{ℕ, ℤ, pos, negsuc, ◌+◌, ◌<◌, ◌≤◌, ◌≤ℤ◌, ◌<ℤ◌, ◌-ℤ◌, ◌≡◌, ◌⊎◌, ◌&&◌, Bool, true, false, not, List, [], ◌∷◌}
-use Rattle.std.proofs.Common.{refl, sym, ap, ◌∙◌, inl, inr, arith, zero, suc, length, map, get_or, subst, int_le, int_lt}
+use Rattle.std.proofs.Common.{ℕ, ℤ, pos, negsuc, ◌+◌, ◌<◌, ◌≤◌, ◌≤ℤ◌, ◌<ℤ◌, ◌-ℤ◌, ◌≡◌, ◌&&◌, Bool, true, false, not, List, [], ◌∷◌}
+use Rattle.std.proofs.Common.{refl, sym, ap, ◌∙◌, inl, inr, arith, length, map, get_or, int_le, int_lt}
 use Rattle.std.proofs.lemmas.Int.{ints}
 use Rattle.std.proofs.lemmas.Bool.{and_from, and_parts, cases_lt, leb-true, ltb-true, true≢false}
 use Rattle.std.specs.List.{count_by, filter}
@@ -14,19 +14,19 @@ use Rattle.atlas_model.proofs.TreeLemmas.TreeBasics.{one_if}
 use Rattle.std.proofs.lemmas.List.Sums.{count_by-le-length}
 
 -- What a box that covers a unit square says.
-record Covers (x y : ℕ) (r : Rectangle) : Type 0 where
-  left : natural r.min.x ≤ x
-  right : x < natural r.max.x
-  top : natural r.min.y ≤ y
-  bottom : y < natural r.max.y
+pub record Covers (x y : ℕ) (r : Rectangle) : Type 0 where
+  pub left : natural r.min.x ≤ x
+  pub right : x < natural r.max.x
+  pub top : natural r.min.y ≤ y
+  pub bottom : y < natural r.max.y
 
-abbrev cover : (x y : ℕ) → Rectangle → Bool
+abbrev pub cover : (x y : ℕ) → Rectangle → Bool
 cover x y r = covers x y (box_of r)
 
-covers_parts : (x y : ℕ) (r : Rectangle) → cover x y r ≡ true → Covers x y r
+pub covers_parts : (x y : ℕ) (r : Rectangle) → cover x y r ≡ true → Covers x y r
 covers_parts x y r e = grind (arith, and_parts, leb-true, ltb-true)
 
-natural_rises : (a b : ℤ) → a ≤ℤ b → natural a ≤ natural b
+pub natural_rises : (a b : ℤ) → a ≤ℤ b → natural a ≤ natural b
 natural_rises (pos a) (pos b) h = omega (arith, ints, h)
 natural_rises (pos a) (negsuc b) h = absurd (omega (arith, ints, h))
 natural_rises (negsuc a) b h = omega arith
@@ -44,7 +44,7 @@ stacked_below low high x y rs h = λ i j d l m f c. false_from _ (λ e.
     let under = natural_rises _ _ (h i j d l m f) in
     absurd (omega (arith, a.bottom, b.top, under)))
 
-count_map : (x y : ℕ) (rs : List Rectangle) → count_by (covers x y) (map box_of rs) ≡ count_by (cover x y) rs
+pub count_map : (x y : ℕ) (rs : List Rectangle) → count_by (covers x y) (map box_of rs) ≡ count_by (cover x y) rs
 count_map x y [] = refl
 count_map x y (r ∷ rs) =
     count_by-cons (covers x y) (box_of r) (map box_of rs) ∙ ap (λ n. one_if (cover x y r) + n) (count_map x y rs)
@@ -57,7 +57,10 @@ before (negsuc a) (pos b) x h l = omega (arith, ints)
 before (negsuc a) (negsuc b) x h l = absurd (omega arith)
 
 is_less : (a b : ℤ) → a <ℤ b → int_lt a b ≡ true
-is_less a b h = omega (arith, ints, h)
+is_less a b h = grind (arith, ints)
+
+is_most : (a b : ℤ) → a ≤ℤ b → int_le a b ≡ true
+is_most a b h = grind (arith, ints)
 
 -- A box that covers a square of a part, and doesn't go through the slab, is one of the part.
 part_from : (low high from to : ℤ) (x y : ℕ) (r : Rectangle) → natural from ≤ x → x < natural to → cover x y r ≡ true
@@ -66,7 +69,7 @@ part_from low high from to x y r h l c n =
     let v = covers_parts x y r c in
     let left : int_lt r.min.x to ≡ true = is_less r.min.x to (before r.min.x to x v.left l) in
     let right : int_lt from r.max.x ≡ true = is_less from r.max.x (before from r.max.x x h v.right) in
-    and_from (and_from n left) right
+    and_from _ _ (and_from _ _ n left) right
 
 -- A box that covers a square of the only column goes through.
 one_column : (low high : ℤ) (r : Rectangle) (x y : ℕ) → Covers x y r → natural low ≤ x → x < natural high
@@ -75,8 +78,10 @@ one_column (pos low) (pos high) r x y v h l small least = by_ends low high r.min
   where
     by_ends : (low high : ℕ) (a b : ℤ) (x : ℕ) → natural a ≤ x → x < natural b → low ≤ x → x < high
         → (pos high -ℤ pos low) <ℤ pos 2 → (int_le a (pos low) && int_le (pos high) b) ≡ true
-    by_ends low high (pos a) (pos b) x f g h l small = and_from (omega (arith, ints, small)) (omega (arith, ints, small))
-    by_ends low high (negsuc a) (pos b) x f g h l small = and_from (omega (arith, ints, small)) (omega (arith, ints, small))
+    by_ends low high (pos a) (pos b) x f g h l small =
+        and_from _ _ (is_most (pos a) (pos low) (omega (arith, ints, small))) (is_most (pos high) (pos b) (omega (arith, ints, small)))
+    by_ends low high (negsuc a) (pos b) x f g h l small =
+        and_from _ _ (is_most (negsuc a) (pos low) (omega (arith, ints))) (is_most (pos high) (pos b) (omega (arith, ints, small)))
     by_ends low high a (negsuc b) x f g h l small = absurd (omega arith)
 one_column (negsuc low) high r x y v h l small least = absurd (omega (arith, ints, least))
 one_column (pos low) (negsuc high) r x y v h l small least = absurd (omega arith)
@@ -93,7 +98,7 @@ module _ (low high : ℤ) (rs : List Rectangle) (stacked : AreStacked low high r
       (omega (
         arith,
         few,
-        count-wider (cover x y) (λ r. not (is_full low high r)) (is_part low high from to)
+        count-wider (cover x y) (is_full low high) (λ r. not (is_full low high r)) (is_part low high from to)
             (λ r c n. part_from low high from to x y r h l c n) rs,
       ))
 
@@ -116,7 +121,7 @@ module _ (low high : ℤ) (rs : List Rectangle) (stacked : AreStacked low high r
   -- A slab of one column.
   pub apart-one : (high -ℤ low) <ℤ pos 2 → pos 0 ≤ℤ low → AreApartIn (natural low) (natural high) (map box_of rs)
   apart-one small least x y h l =
-      let none = count-wider (cover x y) (λ r. not (is_full low high r)) (λ r. false)
+      let none = count-wider (cover x y) (is_full low high) (λ r. not (is_full low high r)) (λ r. false)
       (λ r c n. absurd (true≢false (sym n ∙ ap not (full_of_one x y r h l small least c)))) rs in
       omega (
         arith,

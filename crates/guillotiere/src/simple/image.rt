@@ -1,15 +1,18 @@
 //! A simple allocator as plain data, and one made of such data, whoever gives them.
-ghost use Rattle.std.specs.Prelude.{◌≡◌, true, All, IfOk, IfSome, IsOkUnless, OnOk, map};
-ghost use Rattle.atlas_model.specs.Boxes.{AreDisjoint, AreSameBoxes, IsPositive, IsWithin};
-ghost use Rattle.atlas_model.specs.Choice.{AreValid};
-ghost use Rattle.atlas_model.specs.Pixels.{box_of, options_of, sides_of};
-ghost use Rattle.atlas_search.specs.Rectangles.{IsSolid};
-ghost use Rattle.guillotiere.specs.Apart.{IsSolidWithin};
+ghost use Rattle.std.specs.Prelude.{◌≡◌, ◌≢◌, ◌↔◌, ◌≤◌, ◌++◌, IsTrue, None, Ok, All, IfOk, IfSome, IsOkUnless, OnOk, length, map};
+ghost use Rattle.std.specs.Prelude.{vec_capacity};
+ghost use Rattle.atlas_model.specs.Boxes.{AreSameBoxes, IsNonempty};
+ghost use Rattle.atlas_model.specs.Pixels.{box_of, options_of};
+ghost use Rattle.atlas_model.specs.Simple.{IsSimple, SimpleState};
+ghost use Rattle.atlas_search.specs.Rectangles.{IsUnsigned};
+ghost use Rattle.guillotiere.specs.FreeBoxes.BoxShelves.{AreKept, box_shelf, free_item_boxes, has_width};
+ghost use Rattle.guillotiere.specs.FreeBoxes.FreeEntries.{free_entry_areas};
+ghost use Rattle.guillotiere.specs.SimpleImages.{IsImageOf, IsSimpleImage};
 
 use super::SimpleAtlasAllocator;
 use super::changes::file_area;
-use crate::simple::apart::are_apart_in;
-use crate::simple::boxes::FreeBoxes;
+use crate::simple::apart::{are_disjoint, are_within};
+use crate::simple::boxes::{FreeBox, FreeBoxes};
 use atlas_model::{AllocatorOptions, AtlasError, Rectangle, Size};
 use atlas_search::bands::Scale;
 use std::alloc::{AllocError, Allocator, Global};
@@ -22,42 +25,64 @@ pub struct SimpleImage<A: Allocator = Global> {
     pub free: Vec<Rectangle, A>,
 }
 
-// Whether a box has sides above 0, and lies within a size.
-fn is_within(area: &Rectangle, size: Size) -> bool
-    ensures { result ≡ true → IsSolidWithin (sides_of size) area.now }
+// Whether data are those of a simple allocator.
+fn is_simple<A: Allocator + Copy>(alloc: A, image: &SimpleImage<A>) -> Result<bool, AllocError>
+    ensures { IfOk result (λ simple. IsTrue simple ↔ IsSimpleImage image.now) }
 {
-    area.min.x >= 0
-        && area.min.y >= 0
-        && !area.is_empty()
-        && area.max.x <= size.width
-        && area.max.y <= size.height
+    if !image.size.is_positive() {
+        return Ok(false);
+    }
+    if !image.options.is_valid() {
+        return Ok(false);
+    }
+    if !are_within(&image.free, image.size) {
+        return Ok(false);
+    }
+    are_disjoint(alloc, &image.free, image.size)
 }
 
-// Whether all do.
-fn are_within(boxes: &[Rectangle], size: Size) -> bool
-    ensures { result ≡ true → All (IsSolidWithin (sides_of size)) boxes.now }
+// Whether an entry is a free box.
+fn is_free(entry: &FreeBox) -> bool
+    ensures { result ≡ has_width entry.now.area }
 {
-    for area in boxes {
-        if !is_within(area, size) {
-            return false;
+    entry.area.min.x < entry.area.max.x
+}
+
+// The rectangles of the free entries.
+fn free_entry_areas<A: Allocator>(
+    alloc: A,
+    entries: &[FreeBox],
+) -> Result<Vec<Rectangle, A>, AllocError>
+    ensures { IfOk result (λ it. it.items ≡ free_entry_areas entries.now) }
+{
+    let mut areas = Vec::new(alloc);
+    for entry in entries {
+        if is_free(entry) {
+            areas.push(entry.area)?;
         }
     }
-    true
+    Ok(areas)
 }
 
-// Whether boxes within a size are disjoint.
-fn are_disjoint<A: Allocator + Copy>(
-    alloc: A,
-    boxes: &[Rectangle],
-    size: Size,
-) -> Result<bool, AllocError>
-    requires size { IsPositive (sides_of size) }
-    requires within { All (IsSolidWithin (sides_of size)) boxes.now }
-    ensures { IfOk result (λ apart. apart ≡ true → AreDisjoint (map box_of boxes.now)) }
+// Adds rectangles, and room for them.
+fn file_areas<A: Allocator>(
+    boxes: &mut FreeBoxes<A>,
+    areas: &[Rectangle],
+    options: &Scale,
+) -> Result<(), AtlasError>
+    requires exact { All (λ r. IsUnsigned r × IsNonempty (box_of r)) areas.now }
+    requires kept { AreKept (options_of options.now) (box_shelf boxes.old) }
+    requires used { boxes.old.used ≡ length (box_shelf boxes.old).entries }
+    ensures unless { IsOkUnless result AtlasError.Memory }
+    ensures kept { OnOk result (AreKept (options_of options.now) (box_shelf boxes.new)) }
+    ensures boxes { OnOk result (AreSameBoxes (free_item_boxes (box_shelf boxes.new).entries)
+        (map box_of areas.now ++ free_item_boxes (box_shelf boxes.old).entries)) }
+    ensures capacity { vec_capacity boxes.old.entries ≤ vec_capacity boxes.new.entries }
 {
-    let mut sorted = Vec::from_slice(alloc, boxes)?;
-    sorted.sort_unstable_by_key(|area| area.min.y);
-    are_apart_in(alloc, &sorted, 0, size.width)
+    for area in areas {
+        file_area(boxes, *area, options)?;
+    }
+    Ok(())
 }
 
 impl<A: Allocator + Copy> SimpleAtlasAllocator<A> {
@@ -66,16 +91,10 @@ impl<A: Allocator + Copy> SimpleAtlasAllocator<A> {
     /// The allocator as plain data. `Memory` is the only error.
     pub fn image(&self) -> Result<SimpleImage<A>, AtlasError>
         ensures unless { IsOkUnless result AtlasError.Memory }
-        ensures free { IfOk result (λ it. AreSameBoxes (map box_of it.free.items) (simple_state_of self.now).free) }
-        ensures size { IfOk result (λ it. sides_of it.size ≡ (simple_state_of self.now).size) }
-        ensures options { IfOk result (λ it. options_of it.options ≡ (simple_state_of self.now).options) }
+        ensures image { IfOk result (λ it. IsImageOf it (simple_state_of self.now)) }
+        ensures simple { IsSimple (simple_state_of self.now) }
     {
-        let mut free = Vec::new(*self.boxes.entries.allocator());
-        for entry in &self.boxes.entries {
-            if entry.area.min.x < entry.area.max.x {
-                free.push(entry.area)?;
-            }
-        }
+        let free = free_entry_areas(*self.boxes.entries.allocator(), &self.boxes.entries)?;
         Ok(SimpleImage {
             size: self.size,
             options: self.options.plain(),
@@ -88,32 +107,18 @@ impl<A: Allocator + Copy> SimpleAtlasAllocator<A> {
     /// sort them. `Memory` is the only error.
     pub fn from_image(alloc: A, image: &SimpleImage<A>) -> Result<Option<Self>, AtlasError>
         ensures unless { IsOkUnless result AtlasError.Memory }
-        ensures free { IfOk result (λ found. IfSome found (λ it.
-            AreSameBoxes (simple_state_of it).free (map box_of image.now.free.items))) }
-        ensures size { IfOk result (λ found. IfSome found (λ it. (simple_state_of it).size ≡ sides_of image.now.size)) }
-        ensures options { IfOk result (λ found. IfSome found (λ it.
-            (simple_state_of it).options ≡ options_of image.now.options)) }
+        ensures image { IfOk result (λ found. IfSome found (λ it. IsImageOf image.now (simple_state_of it))) }
+        ensures complete { (s : SimpleState) → IsSimple s → IsImageOf image.now s → result ≢ Ok None }
     {
-        let SimpleImage {
-            size,
-            options,
-            free,
-        } = image;
-        let size = *size;
-        if !size.is_positive() || !options.is_valid() || !are_within(free, size) {
+        if !is_simple(alloc, image)? {
             return Ok(None);
         }
-        if !are_disjoint(alloc, free, size)? {
-            return Ok(None);
-        }
-        let options = Scale::new(options);
+        let options = Scale::new(&image.options);
         let mut boxes = FreeBoxes::new(alloc)?;
-        for area in free {
-            file_area(&mut boxes, *area, &options)?;
-        }
+        file_areas(&mut boxes, &image.free, &options)?;
         Ok(Some(SimpleAtlasAllocator {
             boxes,
-            size,
+            size: image.size,
             options,
         }))
     }
