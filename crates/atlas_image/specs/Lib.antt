@@ -1,4 +1,3 @@
 pub mod Members
-pub mod Ranks
 pub mod Unused
 pub mod Imaged
