@@ -33,12 +33,12 @@ module _ (o : Options) (ns : List Node)
   aligned-Standing s b q (Alloc j g e rest) h =
       let here : IsAligned o (box_sides (member_box s q e)) =
       subst (λ a. IsAligned o (box_sides (box_of a))) h.1 (each j h.0.kind) in
-      All-cons _ (grant (id_of j g) (member_box s q e)) _ here
+      All-cons (λ x. IsAligned o (box_sides x.box)) (grant (id_of j g) (member_box s q e)) _ here
       (subst (λ v. AreAligned o (live_among s.axis v s.width (erase rest))) (sym (moved-spot s.axis q s.start e))
       (aligned-Standing s j (q + e) rest h.3))
   aligned-Standing s b q (Seq j e inner rest) h =
       subst (AreAligned o) (sym (live_among-seq s.axis (spot s.axis q s.start) s.width e (erase inner) (erase rest)))
-      (All-append _ _ _
+      (All-append (λ x. IsAligned o (box_sides x.box)) _ _
       (subst (λ v. AreAligned o (live_among (other s.axis) v e (erase inner))) (spot-other s.axis q s.start)
       (aligned-Standing (inside s j q e) no_slot s.start inner h.2))
       (subst (λ v. AreAligned o (live_among s.axis v s.width (erase rest))) (sym (moved-spot s.axis q s.start e))

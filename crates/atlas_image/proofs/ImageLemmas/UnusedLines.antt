@@ -3,7 +3,7 @@ use Rattle.std.proofs.Common.{ℕ, ◌+◌, ◌<◌, ◌≤◌, ◌≡◌, ◌�
 use Rattle.std.proofs.Common.{length, map, set, slice_index_or, get_or-set_other, get_or-set_same, subst}
 use Rattle.std.proofs.lemmas.Bool.{cases_eq, cases_lt}
 use Rattle.std.proofs.lemmas.List.{get_or_past, length-map}
-use Rattle.atlas_image.specs.Unused.{AreUnmarked, IsMarkedLine, IsTakenFrom, count_of, is_unused, is_unused_kind, mark_count}
+use Rattle.atlas_image.specs.Unused.{AreUnmarked, IsTakenFrom, count_of, is_unused, is_unused_kind, mark_count}
 use Rattle.atlas_search.specs.Numbers.{front, no_slot, occurs, same}
 use Rattle.atlas_store.specs.declared.slots.Node.{Node}
 use Rattle.atlas_store.specs.declared.slots.NodeKind.{NodeKind}
