@@ -1,12 +1,11 @@
 -- What a used slot says of its place, by its neighbours. No public clause cites this module.
-use Rattle.std.specs.Prelude.{ℕ, ◌≡◌, ◌≢◌, ◌<◌, ◌==◌, if◌then◌else◌, List, slice_index, slice_index_or, ◌⊎◌}
+use Rattle.std.specs.Prelude.{ℕ, ◌≡◌, ◌≢◌, ◌<◌, ◌==◌, if◌then◌else◌, List, slice_index, slice_index_or}
 use Rattle.atlas_image.specs.declared.order.Order.{Order}
 use Rattle.atlas_image.specs.declared.members.Span.{Span}
 use Rattle.atlas_search.specs.declared.link.Link.{Link}
 use Rattle.atlas_search.specs.declared.cut.Orientation.{Orientation}
 use Rattle.atlas_search.specs.declared.cut.Orientation.TheVariants as orientation
 use Rattle.atlas_store.specs.declared.slots.Node.{Node}
-use Rattle.atlas_store.specs.declared.slots.NodeKind.{NodeKind}
 use Rattle.atlas_store.specs.declared.slots.NodeKind.TheVariants as kind
 use Rattle.atlas_model.specs.declared.geometry.Size.{Size}
 use Rattle.atlas_model.specs.declared.geometry.Rectangle.{Rectangle}

@@ -1,10 +1,9 @@
 -- Marks of unused slots, and the list that takes them away. No public clause cites this module.
-use Rattle.std.specs.Prelude.{ℕ, ◌+◌, ◌≡◌, ◌<◌, ◌≤◌, Bool, true, false, List, length, slice_index_or}
+use Rattle.std.specs.Prelude.{ℕ, ◌+◌, ◌≡◌, ◌<◌, Bool, true, false, List, length, slice_index_or}
 use Rattle.atlas_search.specs.Numbers.{front, occurs}
 use Rattle.atlas_store.specs.declared.slots.Node.{Node}
 use Rattle.atlas_store.specs.declared.slots.NodeKind.{NodeKind}
 use Rattle.atlas_store.specs.declared.slots.NodeKind.TheVariants as kind
-use Rattle.atlas_store.specs.Slots.{node_at}
 use Rattle.atlas_store.specs.Store.Restoring.{NodeLine}
 
 abbrev pub is_unused_kind : NodeKind → Bool

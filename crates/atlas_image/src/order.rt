@@ -53,8 +53,7 @@ impl<A: Allocator> Order<A> {
     }
 
     // Gives a slot a rank and puts it in the queue, unless it has one.
-    fn enqueue(&mut self, queue: &mut Vec<Link, A>, at: Link, rank: u32) -> Result<(), AllocError>
-    {
+    fn enqueue(&mut self, queue: &mut Vec<Link, A>, at: Link, rank: u32) -> Result<(), AllocError> {
         if !self.lacks_rank(at) {
             return Ok(());
         }
@@ -64,8 +63,7 @@ impl<A: Allocator> Order<A> {
     }
 
     // Notes a slot, if that comes first somewhere.
-    fn note_first(&mut self, member: &Node, at: Link)
-    {
+    fn note_first(&mut self, member: &Node, at: Link) {
         if !is_used(member) {
             return;
         }

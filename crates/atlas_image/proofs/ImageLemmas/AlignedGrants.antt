@@ -1,17 +1,17 @@
 -- What is granted is aligned where the rectangle of each granted slot is, and no two ids name one slot.
-use Rattle.std.proofs.Common.{ℕ, ◌+◌, ◌%◌, ◌^◌, ◌<◌, ◌≤◌, ◌≡◌, List, refl, sym, ap, ◌∙◌, subst, length, arith}
+use Rattle.std.proofs.Common.{ℕ, ◌+◌, ◌%◌, ◌^◌, ◌<◌, ◌≤◌, ◌≡◌, List, sym, subst, length, arith}
 use Rattle.std.specs.List.{All}
 use Rattle.std.proofs.lemmas.List.Elements.{All-append, All-cons, All-nil}
-use Rattle.atlas_model.specs.Boxes.{Box, box_sides, other}
+use Rattle.atlas_model.specs.Boxes.{box_sides, other}
 use Rattle.atlas_model.specs.Choice.{Options}
 use Rattle.atlas_model.specs.Pixels.{box_of}
 use Rattle.atlas_model.specs.States.{IsAligned}
-use Rattle.atlas_model.specs.Trees.{AreApart, Grant, grant, ids, slot_count}
+use Rattle.atlas_model.specs.Trees.{AreApart, Grant, grant, ids}
 use Rattle.atlas_model.proofs.TreeLemmas.TreeBasics.{live_among, live_among-seq}
-use Rattle.atlas_search.specs.Numbers.{no_slot, same}
+use Rattle.atlas_search.specs.Numbers.{no_slot}
 use Rattle.atlas_store.specs.declared.slots.Node.{Node}
 use Rattle.atlas_store.specs.declared.slots.NodeKind.TheVariants as kind
-use Rattle.atlas_store.specs.Slots.{node_at, use_count}
+use Rattle.atlas_store.specs.Slots.{node_at}
 use Rattle.atlas_store.specs.Slots.Numbered.{Numbered, erase, id_of, tally, End, Free, Alloc, Seq}
 use Rattle.atlas_store.specs.Slots.Standing.{Sequence, Standing, Stands, inside, member_box, spot}
 use Rattle.atlas_store.proofs.SlotLemmas.Frames.{used-inside, used-le}

@@ -8,7 +8,7 @@ use Rattle.atlas_search.specs.Numbers.{no_slot, same}
 use Rattle.atlas_store.specs.declared.slots.Node.{Node}
 use Rattle.atlas_store.specs.declared.slots.NodeKind.TheVariants as kind
 use Rattle.atlas_store.specs.Slots.{node_at, use_count}
-use Rattle.atlas_store.specs.Slots.Numbered.{Numbered, tally, End, Free, Alloc, Seq}
+use Rattle.atlas_store.specs.Slots.Numbered.{Numbered, tally, End}
 use Rattle.atlas_store.proofs.SlotLemmas.Frames.{same-self, same-ne}
 
 -- What comes before a member: the member before it, or its container.

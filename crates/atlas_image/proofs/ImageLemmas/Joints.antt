@@ -1,26 +1,12 @@
 -- Nodes whose checks succeed stand for the tree of an atlas.
-use Rattle.std.proofs.Common.{ℕ, ◌+◌, ◌-◌, ◌<◌, ◌≤◌, ◌≡◌, ◌≢◌, ◌⊎◌, List, [], ◌∷◌, refl, sym, ap, ◌∙◌, inl, inr, arith, zero, suc, subst, length, get_or, sum}
+use Rattle.std.proofs.Common.{ℕ, ◌-◌, ◌<◌, ◌≡◌, ◌≢◌, List, refl, sym, ap, ◌∙◌, inl, inr, arith, zero, suc, subst, length, get_or, sum}
 use Rattle.std.proofs.lemmas.Bool.{cases_eq, cases_lt, eq-eqb, ne_eqb}
 use Rattle.std.proofs.lemmas.List.{get_or_past}
 use Rattle.std.proofs.lemmas.List.Sums.{get_or-le-sum_by}
 use Rattle.atlas_image.specs.declared.members.Span.{Span}
 use Rattle.atlas_image.specs.declared.order.Order.{Order}
 use Rattle.atlas_image.specs.Imaged.{AreMembers, IsTreeOf, used_below}
-use Rattle.atlas_image.specs.Members.{
-  IsAfter,
-  IsFirst,
-  IsFirstOf,
-  IsHeldBy,
-  IsMember,
-  IsNextOf,
-  IsSettled,
-  IsUsed,
-  first_in,
-  frame_in,
-  rank_in,
-  span_in,
-  whole_rectangle,
-}
+use Rattle.atlas_image.specs.Members.{IsAfter, IsHeldBy, IsMember, IsSettled, IsUsed, first_in, frame_in, rank_in, span_in, whole_rectangle}
 use Rattle.atlas_image.proofs.ImageLemmas.Spans.{
   across-end,
   area-is,
@@ -35,7 +21,7 @@ use Rattle.atlas_image.proofs.ImageLemmas.Spans.{
   sequence_of,
 }
 use Rattle.atlas_image.proofs.ImageLemmas.GrownTrees.{AreJoints, IsInnerIn, IsJoint, IsNextIn, IsTreeAt, grown, grown-stands}
-use Rattle.atlas_image.proofs.ImageLemmas.GrownOnce.{before, before-after, before-first}
+use Rattle.atlas_image.proofs.ImageLemmas.GrownOnce.{before-after, before-first}
 use Rattle.atlas_image.proofs.ImageLemmas.Reached.{IsLedTo, grown-Stands}
 use Rattle.atlas_model.specs.declared.geometry.Rectangle.{Rectangle}
 use Rattle.atlas_model.specs.declared.geometry.Size.{Size}
@@ -55,12 +41,10 @@ use Rattle.atlas_store.specs.declared.slots.NodeKind.TheVariants as kind
 use Rattle.atlas_store.specs.Slots.{axis_of, node_at, use_count}
 use Rattle.atlas_store.specs.Slots.Calm.{IsCalmAt, NoneEmpty}
 use Rattle.atlas_store.specs.Slots.Growing.{top_along}
-use Rattle.atlas_store.specs.Slots.Numbered.{Numbered, erase, first_slot, numbers, tally}
-use Rattle.atlas_store.specs.Slots.Reading.{extent_of}
+use Rattle.atlas_store.specs.Slots.Numbered.{Numbered, erase, numbers, tally}
 use Rattle.atlas_store.specs.Slots.Standing.{Sequence, Stands}
 use Rattle.atlas_store.proofs.SlotLemmas.Calm.{normal-from_calm}
 use Rattle.atlas_store.proofs.SlotLemmas.Frames.{used-inside}
-use Rattle.atlas_store.proofs.SlotLemmas.JoinWrites.{none-unused}
 use Rattle.atlas_store.proofs.SlotLemmas.ReadTrees.{tallies, tallies-numbers}
 
 -- A number of a list is below its sum and 1.

@@ -1,5 +1,5 @@
 -- Each used slot stands in the tree that links lead through.
-use Rattle.std.proofs.Common.{ℕ, ◌+◌, ◌<◌, ◌≤◌, ◌≡◌, ◌≢◌, ◌⊎◌, List, refl, sym, ap, ◌∙◌, inl, inr, arith, zero, suc, subst}
+use Rattle.std.proofs.Common.{ℕ, ◌+◌, ◌<◌, ◌≤◌, ◌≡◌, ◌≢◌, List, sym, ap, ◌∙◌, inl, inr, arith, zero, suc, subst}
 use Rattle.std.proofs.lemmas.Bool.{cases_eq, cases_lt}
 use Rattle.atlas_image.specs.Members.{IsUsed}
 use Rattle.atlas_image.proofs.ImageLemmas.Spans.{sequence_of, place_of}
@@ -19,9 +19,9 @@ use Rattle.atlas_search.specs.Numbers.{no_slot, same}
 use Rattle.atlas_store.specs.declared.slots.Node.{Node}
 use Rattle.atlas_store.specs.declared.slots.NodeKind.TheVariants as kind
 use Rattle.atlas_store.specs.Slots.{node_at, use_count}
-use Rattle.atlas_store.specs.Slots.Numbered.{Numbered, tally, first_slot, End}
+use Rattle.atlas_store.specs.Slots.Numbered.{Numbered, tally, first_slot}
 use Rattle.atlas_store.specs.Slots.Standing.{Standing, Stands}
-use Rattle.atlas_store.proofs.SlotLemmas.Frames.{same-self, same-ne, used-le}
+use Rattle.atlas_store.proofs.SlotLemmas.Frames.{same-ne, used-le}
 use Rattle.atlas_store.proofs.SlotLemmas.MemberLinks.{first-in, next-in}
 
 -- What comes before a used slot leads to it.

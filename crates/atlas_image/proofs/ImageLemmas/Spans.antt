@@ -4,7 +4,7 @@ use Rattle.std.proofs.lemmas.Int.{ints}
 use Rattle.atlas_image.specs.declared.members.Span.{Span}
 use Rattle.atlas_image.specs.Members.{span_in, IsAcross}
 use Rattle.atlas_model.specs.declared.geometry.Rectangle.{Rectangle}
-use Rattle.atlas_model.specs.Boxes.{Axis, Box, IsNonempty, box_sides, other, side}
+use Rattle.atlas_model.specs.Boxes.{Box, IsNonempty, box_sides, other, side}
 use Rattle.atlas_model.specs.Pixels.{box_of, natural, rectangle_of}
 use Rattle.atlas_search.specs.declared.cut.Orientation.{Orientation}
 use Rattle.atlas_search.specs.declared.cut.Orientation.TheVariants as orientation

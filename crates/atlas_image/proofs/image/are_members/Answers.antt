@@ -1,4 +1,4 @@
-use Rattle.std.proofs.Common.{◌<◌, ◌≡◌, true, false, arith, below_more, subst, sym, rules}
+use Rattle.std.proofs.Common.{◌≡◌, true, arith, below_more, subst, sym, rules}
 use Rattle.std.proofs.lemmas.Bool.{iff_false}
 use Rattle.atlas_image.specs.Members.{IsMember, IsSettled, IsUsed}
 use Rattle.atlas_store.specs.Slots.{node_at}

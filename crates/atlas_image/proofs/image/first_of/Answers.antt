@@ -1,4 +1,4 @@
-use Rattle.std.proofs.Common.{◌≡◌, true, arith, length, rules, subst}
+use Rattle.std.proofs.Common.{◌≡◌, true, arith, rules, subst}
 use Rattle.atlas_image.specs.Members.{IsFirstOf}
 use Rattle.atlas_image.proofs.ImageLemmas.Joints.{imaged}
 use Rattle.atlas_search.specs.Numbers.{no_slot}

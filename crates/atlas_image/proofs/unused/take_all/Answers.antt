@@ -1,4 +1,4 @@
-use Rattle.std.proofs.Common.{◌≡◌, ◌∙◌, true, ap, arith, length, map, rules, subst}
+use Rattle.std.proofs.Common.{◌≡◌, ◌∙◌, true, ap, arith, length, rules, subst}
 use Rattle.std.proofs.lemmas.List.{length-map}
 use Rattle.atlas_image.specs.Unused.{IsTakenFrom, is_unused}
 use Rattle.atlas_image.proofs.ImageLemmas.UnusedLines.{unused-line}
