@@ -1,17 +1,20 @@
 -- An atlas made of plain data.
 use Rattle.std.proofs.Common.{ℕ, ◌+◌, ◌<◌, ◌≤◌, ◌≡◌, ◌^◌, List, [], ◌∷◌, refl, sym, ap, ◌∙◌, arith, length, map, subst, zero, suc}
 use Rattle.std.proofs.lemmas.List.{length-map}
-use Rattle.atlas_image.specs.Imaged.{IsTreeOf, used_below}
+use Rattle.atlas_allocator.specs.Images.{image_of, state_in}
+use Rattle.atlas_image.specs.Imaged.{AreImaged, IsTreeOf, used_below}
 use Rattle.atlas_image.proofs.ImageLemmas.AlignedGrants.{AreAligned, aligned-Standing, ids-apart}
 use Rattle.atlas_image.proofs.ImageLemmas.Joints.{used-numbers}
+use Rattle.atlas_model.specs.declared.geometry.Size.{Size}
 use Rattle.atlas_model.specs.declared.options.AllocatorOptions.{AllocatorOptions}
 use Rattle.atlas_model.specs.Boxes.{Axis, IsPositive, Sides, origin, other, side}
 use Rattle.atlas_model.specs.Boxes.Axis.{Horizontal, Vertical}
 use Rattle.atlas_model.specs.Choice.{AreValid}
-use Rattle.atlas_model.specs.Pixels.{options_of, sides_of}
+use Rattle.atlas_model.specs.Pixels.{natural, options_of, sides_of}
 use Rattle.atlas_model.specs.States.{IsSound}
 use Rattle.atlas_model.specs.Trees.{Tree, most_slots, total}
 use Rattle.atlas_model.proofs.TreeLemmas.TreeBasics.{live_among}
+use Rattle.atlas_search.specs.declared.link.Link.{Link}
 use Rattle.atlas_search.specs.Numbers.{no_slot}
 use Rattle.atlas_store.specs.declared.slots.Node.{Node}
 use Rattle.atlas_store.specs.declared.slots.NodeKind.{NodeKind}
@@ -22,8 +25,10 @@ use Rattle.atlas_store.specs.Slots.Growing.{top_along}
 use Rattle.atlas_store.specs.Slots.Numbered.{Numbered, erase, first_slot, numbers, tally, End}
 use Rattle.atlas_store.specs.Slots.Reading.{tree_of}
 use Rattle.atlas_store.specs.Slots.Standing.{Sequence, Stands}
-use Rattle.atlas_store.specs.Store.Restoring.{StandWhole, image_node, next_of}
-use Rattle.atlas_store.specs.Stored.{Holding, Holds, IsAtlas, IsDetachedOnly, Stored, state_of}
+use Rattle.atlas_store.specs.declared.store.Store.{Store}
+use Rattle.atlas_store.specs.Store.Holdings.{shelf_of}
+use Rattle.atlas_store.specs.Store.Restoring.{CanRestore, IsRestored, StandWhole, image_node, next_of}
+use Rattle.atlas_store.specs.Stored.{AtlasValue, Holding, Holds, IsAtlas, IsDetachedOnly, Stored, state_of}
 use Rattle.atlas_store.proofs.SlotLemmas.Frames.{Standing-same, same-self}
 use Rattle.atlas_store.proofs.SlotLemmas.Normal.{numbers-erase}
 use Rattle.atlas_store.proofs.SlotLemmas.ReadTrees.{HasMember, numbers-few, tree_of-Stands}
@@ -60,7 +65,7 @@ module _ (ns : List Node) (size : Sides) (options : AllocatorOptions) (first : �
         stands = t.stands;
         cut = t.cut;
         wide = side_above (other t.axis) size positive;
-        across = side_below (other t.axis) size (2 ^ 31) w h;
+        across = omega (arith, side_below (other t.axis) size (2 ^ 31) w h);
         along = omega (arith, t.along, side_below t.axis size (2 ^ 31) w h);
       }
 
@@ -173,3 +178,40 @@ image-tree v a =
     let other = tree_of-Stands (nodes ss) h.sequence h.tree (omega (arith, few, length-map ss node_of)) a.holds.top
     a.holds.stands some in
     one ∙ sym other
+
+pub image-state : (v : AtlasValue) → IsAtlas v.stored → state_in (image_of v) ≡ state_of v
+image-state v a = rw (image-tree v.stored a, length-map v.stored.shelf.slots image_node) refl
+
+-- Nodes that pass the test.
+module _ (ns : List Node) (unused : Link) (size : Size) (options : AllocatorOptions) (first : Link)
+    (h : AreImaged ns unused size options first) (positive : IsPositive (sides_of size))
+    (w : natural size.width < 2 ^ 31) (t : natural size.height < 2 ^ 31) where
+  abbrev tree : IsTreeOf ns (sides_of size) options first.number h.tree.0
+  tree = h.tree.1
+
+  abbrev whole : StandWhole ns (whole_in tree.axis (sides_of size)) h.tree.0
+  whole = stand-whole ns (sides_of size) options first.number h.tree.0 tree positive w t
+
+  -- A store can be made of them.
+  pub imaged-restorable : AreValid (options_of options) → length ns ≤ most_slots → CanRestore ns unused options
+  imaged-restorable valid short = record {
+    tree = (whole_in tree.axis (sides_of size), h.tree.0, whole);
+    line = h.line;
+    valid = valid;
+    short = short;
+  }
+
+  -- That store is an atlas's.
+  pub restored-atlas : {A : Type 0} (it : Store A) (limit used : ℕ) → IsRestored it ns unused options
+      → used ≡ used_below ns (length ns) → length ns ≤ limit → limit ≤ most_slots
+      → IsAtlas (record { shelf = shelf_of it; first = first; used = used; size = size; limit = limit })
+  restored-atlas it limit used r u less most =
+      imaged-atlas _ ns h.tree.0 (record {
+        tree = subst (λ o. IsTreeOf ns (sides_of size) o first.number h.tree.0) (sym r.options) tree;
+        nodes = r.nodes;
+        holding = r.holds (whole_in tree.axis (sides_of size)) h.tree.0 whole;
+        used = u;
+        positive = positive;
+        kept = less;
+        most = most;
+      })

@@ -1,5 +1,7 @@
 //! An atlas as plain data, and an atlas made of such data, whoever gives them.
-ghost use Rattle.std.specs.Prelude.{◌≡◌, IfOk, IfSome, IsOkUnless};
+ghost use Rattle.std.specs.Prelude.{◌≡◌, ◌<◌, ◌^◌, ◌↔◌, IfOk, IfSome, IsOkUnless, IsTrue};
+ghost use Rattle.atlas_model.specs.Boxes.{IsPositive};
+ghost use Rattle.atlas_model.specs.Pixels.{sides_of};
 
 use crate::atlas::AtlasAllocator;
 use atlas_image::image::{count_used, first_of};
@@ -18,6 +20,15 @@ pub struct AtlasImage<A: Allocator = Global> {
     pub limit: u32,
     pub unused: Link,
     pub nodes: Vec<Node, A>,
+}
+
+// Whether a size isn't empty. Each side fits an `i32`.
+fn is_size(size: Size) -> bool
+    ensures positive { IsTrue result ↔ IsPositive (sides_of size) }
+    ensures width { (sides_of size).width < 2 ^ 31 }
+    ensures height { (sides_of size).height < 2 ^ 31 }
+{
+    size.is_positive()
 }
 
 impl<A: Allocator + Copy> AtlasAllocator<A> {
@@ -56,7 +67,7 @@ impl<A: Allocator + Copy> AtlasAllocator<A> {
             nodes,
         } = image;
         let (size, limit, unused) = (*size, *limit, *unused);
-        if !size.is_positive()
+        if !is_size(size)
             || !options.is_valid()
             || limit > MOST_SLOTS
             || nodes.len() > limit as usize

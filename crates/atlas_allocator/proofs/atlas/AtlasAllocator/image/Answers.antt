@@ -1,0 +1,13 @@
+use Rattle.std.proofs.Common.{◌≡◌, ap, sym, subst}
+use Rattle.atlas_allocator.specs.Images.{image_of, state_in}
+use Rattle.atlas_store.specs.Stored.{IsAtlas, state_of}
+use Rattle.atlas_allocator.proofs.AtlasLemmas.ImagedAtlas.{image-state}
+use Rattle.atlas_allocator.proofs.atlas.AtlasAllocator.image.Goals as goal
+
+pub returns-in_err-nodes-clause-state : goal.returns-in_err-nodes-clause-state
+returns-in_err-nodes-clause-state g c =
+    image-state c.args.self.now (subst IsAtlas (ap (λ v. v.stored) c.self.view_is) c.self.invariant)
+
+pub returns-clause-state : goal.returns-clause-state
+returns-clause-state g c =
+    image-state c.args.self.now (subst IsAtlas (ap (λ v. v.stored) c.self.view_is) c.self.invariant)
