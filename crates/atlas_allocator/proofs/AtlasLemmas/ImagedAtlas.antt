@@ -1,5 +1,5 @@
 -- An atlas made of plain data.
-use Rattle.std.proofs.Common.{ℕ, ◌+◌, ◌<◌, ◌≤◌, ◌≡◌, ◌^◌, List, [], ◌∷◌, refl, sym, ap, ◌∙◌, arith, length, map, subst, zero, suc}
+use Rattle.std.proofs.Common.{ℕ, ◌<◌, ◌≤◌, ◌≡◌, ◌^◌, List, [], ◌∷◌, refl, sym, ap, ◌∙◌, arith, length, map, subst, zero, suc}
 use Rattle.std.proofs.lemmas.List.{length-map}
 use Rattle.atlas_allocator.specs.Images.{image_of, state_in}
 use Rattle.atlas_image.specs.Imaged.{AreImaged, IsTreeOf, used_below}
@@ -7,12 +7,12 @@ use Rattle.atlas_image.proofs.ImageLemmas.AlignedGrants.{AreAligned, aligned-Sta
 use Rattle.atlas_image.proofs.ImageLemmas.Joints.{used-numbers}
 use Rattle.atlas_model.specs.declared.geometry.Size.{Size}
 use Rattle.atlas_model.specs.declared.options.AllocatorOptions.{AllocatorOptions}
-use Rattle.atlas_model.specs.Boxes.{Axis, IsPositive, Sides, origin, other, side}
+use Rattle.atlas_model.specs.Boxes.{Axis, IsPositive, Sides, other, side}
 use Rattle.atlas_model.specs.Boxes.Axis.{Horizontal, Vertical}
 use Rattle.atlas_model.specs.Choice.{AreValid}
 use Rattle.atlas_model.specs.Pixels.{natural, options_of, sides_of}
 use Rattle.atlas_model.specs.States.{IsSound}
-use Rattle.atlas_model.specs.Trees.{Tree, most_slots, total}
+use Rattle.atlas_model.specs.Trees.{most_slots, total}
 use Rattle.atlas_model.proofs.TreeLemmas.TreeBasics.{live_among}
 use Rattle.atlas_search.specs.declared.link.Link.{Link}
 use Rattle.atlas_search.specs.Numbers.{no_slot}
@@ -22,7 +22,7 @@ use Rattle.atlas_store.specs.declared.slots.NodeKind.TheVariants as kind
 use Rattle.atlas_store.specs.declared.slots.Slot.{Slot}
 use Rattle.atlas_store.specs.Slots.{node_at, node_of, nodes, use_count}
 use Rattle.atlas_store.specs.Slots.Growing.{top_along}
-use Rattle.atlas_store.specs.Slots.Numbered.{Numbered, erase, first_slot, numbers, tally, End}
+use Rattle.atlas_store.specs.Slots.Numbered.{Numbered, erase, first_slot, numbers, End}
 use Rattle.atlas_store.specs.Slots.Reading.{tree_of}
 use Rattle.atlas_store.specs.Slots.Standing.{Sequence, Stands}
 use Rattle.atlas_store.specs.declared.store.Store.{Store}

@@ -34,7 +34,7 @@ use Rattle.atlas_model.specs.declared.options.AllocatorOptions.{AllocatorOptions
 use Rattle.atlas_model.specs.Choice.{Options}
 use Rattle.atlas_model.specs.Pixels.{options_of}
 use Rattle.atlas_search.specs.declared.link.Link.{Link}
-use Rattle.atlas_search.specs.Numbers.{front, no_slot, occurs, same}
+use Rattle.atlas_search.specs.Numbers.{front, no_slot, occurs}
 use Rattle.atlas_search.specs.Tables.{head_of, is_used_at}
 use Rattle.atlas_store.specs.declared.slots.Node.{Node}
 use Rattle.atlas_store.specs.declared.slots.NodeKind.{NodeKind}

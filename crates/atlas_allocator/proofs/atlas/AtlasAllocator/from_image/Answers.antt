@@ -1,10 +1,9 @@
-use Rattle.std.proofs.Common.{◌≡◌, ◌<◌, ◌≤◌, ◌^◌, length, rules, arith, subst}
+use Rattle.std.proofs.Common.{◌≡◌, ◌≤◌, length, rules}
 use Rattle.atlas_image.specs.Imaged.{AreImaged, used_below}
 use Rattle.atlas_model.specs.Boxes.{IsPositive}
 use Rattle.atlas_model.specs.Choice.{AreValid}
-use Rattle.atlas_model.specs.Pixels.{natural, options_of, sides_of}
+use Rattle.atlas_model.specs.Pixels.{options_of, sides_of}
 use Rattle.atlas_model.specs.Trees.{most_slots}
-use Rattle.atlas_store.proofs.StoreLemmas.Sizes.{natural-fits}
 use Rattle.atlas_allocator.proofs.AtlasLemmas.ImagedAtlas.{imaged-restorable, restored-atlas}
 use Rattle.atlas_allocator.proofs.atlas.AtlasAllocator.from_image.Goals as goal
 

@@ -1,6 +1,5 @@
-use Rattle.std.proofs.Common.{◌≡◌, ap, sym, subst}
-use Rattle.atlas_allocator.specs.Images.{image_of, state_in}
-use Rattle.atlas_store.specs.Stored.{IsAtlas, state_of}
+use Rattle.std.proofs.Common.{ap, subst}
+use Rattle.atlas_store.specs.Stored.{IsAtlas}
 use Rattle.atlas_allocator.proofs.AtlasLemmas.ImagedAtlas.{image-state}
 use Rattle.atlas_allocator.proofs.atlas.AtlasAllocator.image.Goals as goal
 
