@@ -15,3 +15,4 @@ pub mod Requests
 pub mod RehearsedIds
 pub mod FreeRoom
 pub mod SlotSteps
+pub mod ImagedAtlas

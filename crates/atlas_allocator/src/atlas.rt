@@ -19,6 +19,7 @@ ghost use Rattle.atlas_model.specs.Steps.AtlasCall.{Allocate, Deallocate, Grow, 
 ghost use Rattle.atlas_model.specs.Steps.AtlasCall.{ResizeAndRearrange};
 ghost use Rattle.atlas_model.specs.Steps.AtlasReply.{Done};
 
+pub mod image;
 pub mod iter;
 pub mod queries;
 pub mod rearranging;

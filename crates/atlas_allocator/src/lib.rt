@@ -3,5 +3,6 @@
 
 mod atlas;
 
+pub use atlas::image::AtlasImage;
 pub use atlas::iter::{FreeIter, LiveIter};
 pub use atlas::{AtlasAllocator, store_of};

@@ -16,3 +16,4 @@ pub mod ExtendedTrees
 pub mod ExtensionSteps
 pub mod StoreFacts
 pub mod TakenOnce
+pub mod RestoredStores

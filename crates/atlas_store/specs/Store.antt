@@ -5,3 +5,4 @@ pub mod Freeing
 pub mod Choosing
 pub mod StoreCalls
 pub mod TopCalls
+pub mod Restoring

@@ -8,6 +8,7 @@ ghost use Rattle.atlas_store.specs.Stored.{Holding, Holds, HoldsWith};
 
 pub mod choosing;
 pub mod extend;
+pub mod restoring;
 pub mod start;
 pub mod turns;
 pub mod views;

@@ -25,6 +25,7 @@ mod recording;
 mod rehearsed;
 mod reserved;
 mod reserving;
+mod saved;
 mod sheet;
 mod shown;
 mod strips;

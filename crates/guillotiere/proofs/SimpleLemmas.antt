@@ -11,3 +11,10 @@ pub mod SimpleSessions
 pub mod SimpleLists
 pub mod SimpleStarts
 pub mod GrantedBoxes
+pub mod ApartLists
+pub mod ApartBoxes
+pub mod ApartSteps
+pub mod ApartCrossings
+pub mod ApartTold
+pub mod ApartWithin
+pub mod ImagedBoxes

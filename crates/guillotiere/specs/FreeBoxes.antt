@@ -2,3 +2,4 @@
 pub mod FreeLists
 pub mod BoxShelves
 pub mod BoxCalls
+pub mod FreeEntries

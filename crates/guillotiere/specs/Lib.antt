@@ -2,6 +2,8 @@ pub mod Sessions
 pub mod SimpleSessions
 pub mod SimpleStored
 pub mod FreeBoxes
+pub mod Apart
+pub mod SimpleImages
 pub mod Pages
 pub use Rattle.atlas_store.specs.Stored
 pub use Rattle.atlas_search.specs.Rectangles
@@ -31,3 +33,4 @@ pub use Rattle.atlas_model.specs.Laws
 pub use Rattle.atlas_model.specs.declared.options.TheConstants
 pub use Rattle.atlas_store.specs.Rehearsals
 pub use Rattle.atlas_allocator.specs.Room
+pub use Rattle.atlas_allocator.specs.Images

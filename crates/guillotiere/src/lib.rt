@@ -8,10 +8,11 @@ pub mod pages;
 pub mod session;
 mod simple;
 
-pub use atlas_allocator::{AtlasAllocator, FreeIter, LiveIter};
+pub use atlas_allocator::{AtlasAllocator, AtlasImage, FreeIter, LiveIter};
 pub use atlas_model::{
     AllocId, Allocation, AllocatorOptions, AtlasError, Change, ChangeList, DEFAULT_OPTIONS,
     MOST_SLOTS, Point, Rectangle, Size, SlotCount, laws, point2, size2,
 };
 pub use atlas_store::slots::NodeKind;
 pub use simple::SimpleAtlasAllocator;
+pub use simple::image::SimpleImage;

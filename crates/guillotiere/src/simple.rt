@@ -13,8 +13,10 @@ ghost use Rattle.atlas_model.specs.Simple.{simple_start};
 ghost use Rattle.atlas_model.specs.Simple.SimpleAtlasCall.{Allocate};
 ghost use Rattle.guillotiere.specs.SimpleStored.{LacksEntries};
 
+mod apart;
 pub mod boxes;
 mod changes;
+pub mod image;
 
 use crate::simple::boxes::{FreeBox, FreeBoxes, MOST_BOXES};
 use atlas_model::{AllocatorOptions, AtlasError, DEFAULT_OPTIONS, Rectangle, Size, SlotCount};

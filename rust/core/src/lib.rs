@@ -27,6 +27,8 @@ pub mod atlas_cache;
 #[cfg(feature = "cache")]
 #[doc(hidden)]
 pub mod atlas_entries;
+#[doc(hidden)]
+pub mod atlas_image;
 #[cfg(feature = "sheet")]
 #[doc(hidden)]
 pub mod atlas_maxrects;

@@ -12,6 +12,8 @@ use wollemigo_core::guillotiere as library;
 use wollemigo_core::guillotiere_total::atlas as total;
 use wollemigo_support::alloc::Global;
 
+#[cfg(feature = "serialization")]
+mod images;
 mod rearranging;
 
 /// Hands out rectangles inside one large rectangle, the atlas, takes them back and joins free space at once.

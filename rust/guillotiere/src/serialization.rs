@@ -1,6 +1,7 @@
 //! serde of ids, options and kinds of slots, in the form that the crate `guillotiere` gives them: an id is a number, options are a
 //! struct of three fields, and their alignment a pair; a kind is a variant. What is read is data alone: whether an id is live and whether
-//! options are valid is tested by the call that takes them. Recordings have a form that `recording` describes.
+//! options are valid is tested by the call that takes them. Recordings have a form that `recording` describes, and allocators that of
+//! `atlases`: what is read of them is tested before there is an allocator.
 use crate::{size2, AllocId, AllocatorOptions, NodeKind};
 use core::fmt;
 use core::marker::PhantomData;
@@ -10,6 +11,8 @@ use serde::de::{
 };
 use serde::ser::{Serialize, SerializeStruct, Serializer};
 
+mod atlases;
+mod lists;
 #[cfg(feature = "recording")]
 mod recordings;
 

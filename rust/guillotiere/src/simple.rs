@@ -69,6 +69,21 @@ impl SimpleAtlasAllocator {
         Ok(SimpleAtlasAllocator { simple })
     }
 
+    /// The allocator as plain data, for serde.
+    #[cfg(feature = "serialization")]
+    pub(crate) fn image(&self) -> Result<library::SimpleImage<Global>, AtlasError> {
+        Ok(self.simple.image()?)
+    }
+
+    /// The allocator that data describe; None if they are those of none.
+    #[cfg(feature = "serialization")]
+    pub(crate) fn of_image(
+        image: &library::SimpleImage<Global>,
+    ) -> Result<Option<SimpleAtlasAllocator>, AtlasError> {
+        let simple = library::SimpleAtlasAllocator::from_image(Global, image)?;
+        Ok(simple.map(|simple| SimpleAtlasAllocator { simple }))
+    }
+
     /// A copy that shares nothing with this one, and goes on by itself.
     ///
     /// ```

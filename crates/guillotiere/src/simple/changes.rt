@@ -138,8 +138,8 @@ fn add_rest<A: Allocator>(
     Ok(())
 }
 
-// Adds a rectangle, and room for it.
-fn file_area<A: Allocator>(
+/// Adds a rectangle, and room for it.
+pub fn file_area<A: Allocator>(
     boxes: &mut FreeBoxes<A>,
     area: Rectangle,
     options: &Scale,

@@ -1,6 +1,7 @@
 // Erased from crates/atlas_allocator/src/atlas.rt by rust/erase: don't edit.
 //! The atlas allocator.
 
+pub mod image;
 pub mod iter;
 pub mod queries;
 pub mod rearranging;

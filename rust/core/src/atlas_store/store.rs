@@ -3,6 +3,7 @@
 
 pub mod choosing;
 pub mod extend;
+pub mod restoring;
 pub mod start;
 pub mod turns;
 pub mod views;

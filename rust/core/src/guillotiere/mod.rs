@@ -8,10 +8,11 @@ pub mod pages;
 pub mod session;
 mod simple;
 
-pub use crate::atlas_allocator::{AtlasAllocator, FreeIter, LiveIter};
+pub use crate::atlas_allocator::{AtlasAllocator, AtlasImage, FreeIter, LiveIter};
 pub use crate::atlas_model::{
     point2, size2, AllocId, Allocation, AllocatorOptions, AtlasError, Change, ChangeList, Point,
     Rectangle, Size, SlotCount, DEFAULT_OPTIONS, MOST_SLOTS,
 };
 pub use crate::atlas_store::slots::NodeKind;
+pub use simple::image::SimpleImage;
 pub use simple::SimpleAtlasAllocator;

@@ -1,8 +1,10 @@
 // Erased from crates/guillotiere/src/simple.rt by rust/erase: don't edit.
 //! An allocator that hands out boxes and never takes one back.
 
+mod apart;
 pub mod boxes;
 mod changes;
+pub mod image;
 
 use crate::atlas_model::{
     AllocatorOptions, AtlasError, Rectangle, Size, SlotCount, DEFAULT_OPTIONS,

@@ -1,26 +1,14 @@
 //! serde of recordings and events, as `recording` describes their form, and of allocators by their recordings.
+use super::lists::{size_form, size_of, Formed, List, Written};
 use super::{fields, Among};
 use crate::recording::{Event, Recording, RecordingAllocator};
-use crate::{point2, size2, AllocId, Allocation, AtlasError, Change, ChangeList, Rectangle, Size};
-use alloc::vec::Vec;
+use crate::{point2, AllocId, Allocation, Change, ChangeList, Rectangle};
 use core::fmt;
-use core::marker::PhantomData;
-use serde::de::{
-    Deserialize, Deserializer, EnumAccess, Error as _, SeqAccess, VariantAccess, Visitor,
-};
+use serde::de::{Deserialize, Deserializer, EnumAccess, Error as _, VariantAccess, Visitor};
 use serde::ser::{Error as _, Serialize, SerializeStruct, Serializer};
 
-type SizeForm = (i32, i32);
 type AllocationForm = (u32, (i32, i32, i32, i32));
 type ChangeForm = (AllocationForm, AllocationForm);
-
-fn size_form(size: &Size) -> SizeForm {
-    (size.width, size.height)
-}
-
-fn size_of((width, height): SizeForm) -> Size {
-    size2(width, height)
-}
 
 fn allocation_form(allocation: &Allocation) -> AllocationForm {
     let Rectangle { min, max } = allocation.rectangle;
@@ -31,27 +19,11 @@ fn change_form(change: &Change) -> ChangeForm {
     (allocation_form(&change.old), allocation_form(&change.new))
 }
 
-// A list whose items are written in their form.
-struct Written<'a, T, F>(&'a [T], fn(&T) -> F);
-
-impl<T, F: Serialize> Serialize for Written<'_, T, F> {
-    fn serialize<S: Serializer>(&self, serializer: S) -> Result<S::Ok, S::Error> {
-        serializer.collect_seq(self.0.iter().map(self.1))
-    }
-}
-
 fn written(list: &ChangeList) -> impl Serialize + '_ {
     (
         Written(&list.changes, change_form),
         Written(&list.failures, allocation_form),
     )
-}
-
-// What is read in a form.
-trait Formed {
-    type Form;
-
-    fn of(form: Self::Form) -> Self;
 }
 
 impl Formed for Allocation {
@@ -84,41 +56,6 @@ impl Formed for Event {
 
     fn of(event: Event) -> Self {
         event
-    }
-}
-
-// A list that is read: what it says of its length isn't believed, and where memory is refused that is an error.
-struct List<T>(Vec<T>);
-
-struct ListVisitor<T>(PhantomData<T>);
-
-impl<'de, T: Formed> Visitor<'de> for ListVisitor<T>
-where
-    T::Form: Deserialize<'de>,
-{
-    type Value = List<T>;
-
-    fn expecting(&self, f: &mut fmt::Formatter<'_>) -> fmt::Result {
-        f.write_str("a list")
-    }
-
-    fn visit_seq<A: SeqAccess<'de>>(self, mut input: A) -> Result<List<T>, A::Error> {
-        let mut list = Vec::new();
-        while let Some(form) = input.next_element()? {
-            list.try_reserve(1)
-                .map_err(|_| A::Error::custom(AtlasError::Memory))?;
-            list.push(T::of(form));
-        }
-        Ok(List(list))
-    }
-}
-
-impl<'de, T: Formed> Deserialize<'de> for List<T>
-where
-    T::Form: Deserialize<'de>,
-{
-    fn deserialize<D: Deserializer<'de>>(deserializer: D) -> Result<Self, D::Error> {
-        deserializer.deserialize_seq(ListVisitor(PhantomData))
     }
 }
 

@@ -1,4 +1,5 @@
-//! A format for tests: values as trees. A struct is a map of its fields, a variant a map of one, a list or a tuple a list.
+//! A format for tests: values as trees. A struct is a map of its fields, a variant a map of one, a list or a tuple a list; a bool
+//! is 0 or 1.
 //! A reader takes a list in place of a map too, and a variant as its number and its value.
 use guillotiere::serde;
 use serde::de::{self, value::MapDeserializer, value::SeqDeserializer};
@@ -63,11 +64,9 @@ impl Serializer for Writer {
     type SerializeStructVariant = Impossible<Tree, Fault>;
 
     refused! {
-        serialize_bool(bool) -> Tree;
         serialize_i8(i8) -> Tree;
         serialize_i16(i16) -> Tree;
         serialize_i64(i64) -> Tree;
-        serialize_u8(u8) -> Tree;
         serialize_u16(u16) -> Tree;
         serialize_u64(u64) -> Tree;
         serialize_f32(f32) -> Tree;
@@ -77,11 +76,27 @@ impl Serializer for Writer {
         serialize_bytes(&[u8]) -> Tree;
         serialize_unit() -> Tree;
         serialize_unit_struct(&'static str) -> Tree;
-        serialize_unit_variant(&'static str, u32, &'static str) -> Tree;
         serialize_tuple_struct(&'static str, usize) -> Self::SerializeTupleStruct;
         serialize_tuple_variant(&'static str, u32, &'static str, usize) -> Self::SerializeTupleVariant;
         serialize_map(Option<usize>) -> Self::SerializeMap;
         serialize_struct_variant(&'static str, u32, &'static str, usize) -> Self::SerializeStructVariant;
+    }
+
+    fn serialize_bool(self, is: bool) -> Result<Tree, Fault> {
+        Ok(Tree::Number(is.into()))
+    }
+
+    fn serialize_unit_variant(
+        self,
+        _: &'static str,
+        _: u32,
+        name: &'static str,
+    ) -> Result<Tree, Fault> {
+        Ok(Tree::Map(vec![(name, Tree::Nothing)]))
+    }
+
+    fn serialize_u8(self, number: u8) -> Result<Tree, Fault> {
+        Ok(Tree::Number(number.into()))
     }
 
     fn serialize_i32(self, number: i32) -> Result<Tree, Fault> {
@@ -209,6 +224,14 @@ impl<'de> Deserializer<'de> for Tree {
         }
     }
 
+    fn deserialize_bool<V: Visitor<'de>>(self, visitor: V) -> Result<V::Value, Fault> {
+        match self {
+            Tree::Number(0) => visitor.visit_bool(false),
+            Tree::Number(1) => visitor.visit_bool(true),
+            _ => Err(Fault("no bool".into())),
+        }
+    }
+
     fn deserialize_option<V: Visitor<'de>>(self, visitor: V) -> Result<V::Value, Fault> {
         match self {
             Tree::Nothing => visitor.visit_none(),
@@ -249,7 +272,7 @@ impl<'de> Deserializer<'de> for Tree {
     }
 
     serde::forward_to_deserialize_any! {
-        bool i8 i16 i32 i64 u8 u16 u32 u64 f32 f64 char str string bytes byte_buf unit
+        i8 i16 i32 i64 u8 u16 u32 u64 f32 f64 char str string bytes byte_buf unit
         unit_struct seq tuple tuple_struct map struct identifier ignored_any
     }
 }
@@ -280,7 +303,10 @@ impl<'de> de::VariantAccess<'de> for Content {
     type Error = Fault;
 
     fn unit_variant(self) -> Result<(), Fault> {
-        Err(Fault("unit_variant".into()))
+        match self.0 {
+            Tree::Nothing => Ok(()),
+            _ => Err(Fault("unit_variant".into())),
+        }
     }
 
     fn newtype_variant_seed<T: DeserializeSeed<'de>>(self, seed: T) -> Result<T::Value, Fault> {

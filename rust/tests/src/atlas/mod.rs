@@ -8,6 +8,7 @@ mod equal_sides;
 mod errors;
 mod few_slots;
 mod geometry;
+mod images;
 mod pages;
 mod queries;
 mod rearranging;

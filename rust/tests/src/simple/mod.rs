@@ -3,6 +3,7 @@
 
 mod beside;
 mod entries;
+mod images;
 mod lists;
 mod queries;
 mod steps;

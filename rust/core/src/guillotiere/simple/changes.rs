@@ -75,9 +75,9 @@ fn add_rest<A: Allocator>(
     Ok(())
 }
 
-// Adds a rectangle, and room for it.
+/// Adds a rectangle, and room for it.
 #[inline]
-fn file_area<A: Allocator>(
+pub fn file_area<A: Allocator>(
     boxes: &mut FreeBoxes<A>,
     area: Rectangle,
     options: &Scale,

@@ -1,0 +1,8 @@
+// Erased from crates/atlas_image/src/lib.rt by rust/erase: don't edit.
+//! A test of the slots that a stranger says an atlas has, for `atlas_allocator` alone: whether their nodes stand for a tree of cuts. Each check looks at one slot and its neighbours; that links don't go in circles is shown by ranks.
+
+pub mod image;
+pub mod members;
+pub mod order;
+pub mod settled;
+pub mod unused;

@@ -1,0 +1,114 @@
+// Erased from crates/atlas_image/src/order.rt by rust/erase: don't edit.
+//! The first member of each sequence, and ranks of the used slots.
+
+use crate::atlas_image::members::{is_used, node};
+use crate::atlas_search::link::{Link, NO_SLOT};
+use crate::atlas_store::slots::{Node, NodeKind};
+use wollemigo_support::alloc::{AllocError, Allocator};
+use wollemigo_support::prelude::Vec;
+
+// What stands for no rank.
+const NO_RANK: u32 = 4294967295;
+
+/// The first member of the top sequence and of each container, and for each used slot a rank, below which are the ranks of its container
+/// and of the member before it. They are found by the links alone, so that a check of each slot has to show that they are right.
+pub struct Order<A: Allocator> {
+    pub top: Link,
+    pub firsts: Vec<Link, A>,
+    pub ranks: Vec<u32, A>,
+}
+
+impl<A: Allocator> Order<A> {
+    /// The first member of the sequence that a slot holds, or of the top sequence.
+    #[inline]
+    #[must_use]
+    pub fn first(&self, parent: Link) -> Link {
+        if parent.number == NO_SLOT {
+            return self.top;
+        }
+        match self.firsts.get(parent.number as usize) {
+            Some(first) => *first,
+            None => Link::NONE,
+        }
+    }
+
+    /// The rank of a slot; past the end it is 0.
+    #[inline]
+    #[must_use]
+    pub fn rank(&self, at: Link) -> u32 {
+        match self.ranks.get(at.number as usize) {
+            Some(rank) => *rank,
+            None => 0,
+        }
+    }
+
+    // Gives a slot a rank and puts it in the queue, unless it has one.
+    #[inline]
+    fn enqueue(&mut self, queue: &mut Vec<Link, A>, at: Link, rank: u32) -> Result<(), AllocError> {
+        let i = at.number as usize;
+        if i < self.ranks.len() && self.ranks[i] == NO_RANK {
+            queue.push(at)?;
+            self.ranks[i] = rank;
+        }
+        Ok(())
+    }
+
+    // Notes which members come first.
+    #[inline]
+    fn note_firsts(&mut self, nodes: &[Node]) {
+        for (number, member) in nodes.iter().enumerate() {
+            if is_used(member) && member.previous.number == NO_SLOT {
+                let first = Link {
+                    number: number as u32,
+                };
+                let parent = member.parent.number as usize;
+                if member.parent.number == NO_SLOT {
+                    self.top = first;
+                } else if parent < self.firsts.len() {
+                    self.firsts[parent] = first;
+                }
+            }
+        }
+    }
+
+    // Gives each slot that is come to from the first one a rank: 0 the first one, and each other one 1 more than the place in the queue of
+    // the slot that leads to it.
+    #[inline]
+    fn note_ranks(&mut self, queue: &mut Vec<Link, A>, nodes: &[Node]) -> Result<(), AllocError> {
+        let top = self.top;
+        self.enqueue(queue, top, 0)?;
+        for i in 0..nodes.len() {
+            if i >= queue.len() {
+                return Ok(());
+            }
+            let at = queue[i];
+            let member = node(nodes, at);
+            let rank = i as u32 + 1;
+            self.enqueue(queue, member.next, rank)?;
+            if member.kind == NodeKind::Container {
+                let first = self.first(at);
+                self.enqueue(queue, first, rank)?;
+            }
+        }
+        Ok(())
+    }
+
+    /// The order of these nodes.
+    #[inline]
+    pub fn of(alloc: A, nodes: &[Node]) -> Result<Order<A>, AllocError>
+    where
+        A: Copy,
+    {
+        let mut order = Order {
+            top: Link::NONE,
+            firsts: Vec::with_capacity(alloc, nodes.len())?,
+            ranks: Vec::with_capacity(alloc, nodes.len())?,
+        };
+        order.firsts.resize(nodes.len(), Link::NONE)?;
+        order.ranks.resize(nodes.len(), NO_RANK)?;
+        let mut queue = Vec::with_capacity(alloc, nodes.len())?;
+        order.note_firsts(nodes);
+        order.note_ranks(&mut queue, nodes)?;
+        Ok(order)
+    }
+}
