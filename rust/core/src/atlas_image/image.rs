@@ -10,6 +10,12 @@ use crate::atlas_search::link::{Link, NO_SLOT};
 use crate::atlas_store::slots::Node;
 use wollemigo_support::alloc::{AllocError, Allocator};
 
+// Whether a slot is used, and comes first in the top sequence.
+#[inline]
+fn is_first_of_all(member: &Node) -> bool {
+    is_used(member) && member.parent.number == NO_SLOT && member.previous.number == NO_SLOT
+}
+
 // Whether each used slot is a member of one tree, in its place.
 #[inline]
 fn are_members<A: Allocator>(
@@ -66,13 +72,14 @@ pub fn first_of<A: Allocator + Copy>(
 ) -> Result<Option<Link>, AllocError> {
     let order = Order::of(alloc, nodes)?;
     let first = node(nodes, order.top);
-    if !is_used(&first) || first.parent.number != NO_SLOT || first.previous.number != NO_SLOT {
+    if !is_first_of_all(&first) {
         return Ok(None);
     }
     if !are_members(nodes, &order, size, options) {
         return Ok(None);
     }
-    if !are_lined(alloc, nodes, unused)? {
+    let lined = are_lined(alloc, nodes, unused)?;
+    if !lined {
         return Ok(None);
     }
     Ok(Some(order.top))

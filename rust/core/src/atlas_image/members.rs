@@ -50,6 +50,13 @@ pub fn is_used(node: &Node) -> bool {
     node.kind != NodeKind::Unused
 }
 
+/// Whether a slot is a container.
+#[inline]
+#[must_use]
+pub fn is_container(node: &Node) -> bool {
+    node.kind == NodeKind::Container
+}
+
 /// Where a rectangle lies along an axis.
 #[inline]
 #[must_use]

@@ -1,9 +1,9 @@
 // Erased from crates/atlas_image/src/order.rt by rust/erase: don't edit.
 //! The first member of each sequence, and ranks of the used slots.
 
-use crate::atlas_image::members::{is_used, node};
+use crate::atlas_image::members::{is_container, is_used, node};
 use crate::atlas_search::link::{Link, NO_SLOT};
-use crate::atlas_store::slots::{Node, NodeKind};
+use crate::atlas_store::slots::Node;
 use wollemigo_support::alloc::{AllocError, Allocator};
 use wollemigo_support::prelude::Vec;
 
@@ -42,33 +42,74 @@ impl<A: Allocator> Order<A> {
         }
     }
 
+    // Whether there is such a slot, and it has no rank.
+    #[inline]
+    fn lacks_rank(&self, at: Link) -> bool {
+        let i = at.number as usize;
+        i < self.ranks.len() && self.ranks[i] == NO_RANK
+    }
+
     // Gives a slot a rank and puts it in the queue, unless it has one.
     #[inline]
     fn enqueue(&mut self, queue: &mut Vec<Link, A>, at: Link, rank: u32) -> Result<(), AllocError> {
-        let i = at.number as usize;
-        if i < self.ranks.len() && self.ranks[i] == NO_RANK {
-            queue.push(at)?;
-            self.ranks[i] = rank;
+        if !self.lacks_rank(at) {
+            return Ok(());
         }
+        queue.push(at)?;
+        self.ranks[at.number as usize] = rank;
         Ok(())
+    }
+
+    // Notes a slot, if that comes first somewhere.
+    #[inline]
+    fn note_first(&mut self, member: &Node, at: Link) {
+        if !is_used(member) {
+            return;
+        }
+        if member.previous.number != NO_SLOT {
+            return;
+        }
+        if member.parent.number == NO_SLOT {
+            self.top = at;
+            return;
+        }
+        let parent = member.parent.number as usize;
+        if parent >= self.firsts.len() {
+            return;
+        }
+        self.firsts[parent] = at;
     }
 
     // Notes which members come first.
     #[inline]
     fn note_firsts(&mut self, nodes: &[Node]) {
-        for (number, member) in nodes.iter().enumerate() {
-            if is_used(member) && member.previous.number == NO_SLOT {
-                let first = Link {
-                    number: number as u32,
-                };
-                let parent = member.parent.number as usize;
-                if member.parent.number == NO_SLOT {
-                    self.top = first;
-                } else if parent < self.firsts.len() {
-                    self.firsts[parent] = first;
-                }
-            }
+        for number in 0..nodes.len() {
+            let at = Link {
+                number: number as u32,
+            };
+            let member = node(nodes, at);
+            self.note_first(&member, at);
         }
+    }
+
+    // Gives ranks to what the slot at this place of the queue leads to.
+    #[inline]
+    fn look_at(
+        &mut self,
+        queue: &mut Vec<Link, A>,
+        nodes: &[Node],
+        place: usize,
+    ) -> Result<(), AllocError> {
+        let at = queue[place];
+        let member = node(nodes, at);
+        let rank = place as u32 + 1;
+        self.enqueue(queue, member.next, rank)?;
+        if !is_container(&member) {
+            return Ok(());
+        }
+        let first = self.first(at);
+        self.enqueue(queue, first, rank)?;
+        Ok(())
     }
 
     // Gives each slot that is come to from the first one a rank: 0 the first one, and each other one 1 more than the place in the queue of
@@ -77,18 +118,11 @@ impl<A: Allocator> Order<A> {
     fn note_ranks(&mut self, queue: &mut Vec<Link, A>, nodes: &[Node]) -> Result<(), AllocError> {
         let top = self.top;
         self.enqueue(queue, top, 0)?;
-        for i in 0..nodes.len() {
-            if i >= queue.len() {
+        for place in 0..nodes.len() {
+            if place >= queue.len() {
                 return Ok(());
             }
-            let at = queue[i];
-            let member = node(nodes, at);
-            let rank = i as u32 + 1;
-            self.enqueue(queue, member.next, rank)?;
-            if member.kind == NodeKind::Container {
-                let first = self.first(at);
-                self.enqueue(queue, first, rank)?;
-            }
+            self.look_at(queue, nodes, place)?;
         }
         Ok(())
     }

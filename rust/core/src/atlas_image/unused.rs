@@ -32,7 +32,10 @@ fn take_marks(nodes: &[Node], marks: &mut [bool], first: Link) -> bool {
             return true;
         }
         let i = at.number as usize;
-        if i >= marks.len() || !marks[i] {
+        if i >= marks.len() {
+            return false;
+        }
+        if !marks[i] {
             return false;
         }
         marks[i] = false;
@@ -52,10 +55,19 @@ fn are_unmarked(marks: &[bool]) -> bool {
     true
 }
 
+// Whether the list that begins at `first` goes through all marked slots, each once, and no other slot.
+#[inline]
+fn take_all(nodes: &[Node], marks: &mut [bool], first: Link) -> bool {
+    if !take_marks(nodes, marks, first) {
+        return false;
+    }
+    are_unmarked(marks)
+}
+
 /// Whether the list of unused slots that begins at `first` has each of them once, and no other slot.
 #[inline]
 pub fn are_lined<A: Allocator>(alloc: A, nodes: &[Node], first: Link) -> Result<bool, AllocError> {
     let mut marks = marks_of(alloc, nodes)?;
-    let is_line = take_marks(nodes, &mut marks, first);
-    Ok(is_line && are_unmarked(&marks))
+    let lined = take_all(nodes, &mut marks, first);
+    Ok(lined)
 }

@@ -20,6 +20,12 @@ pub struct AtlasImage<A: Allocator = Global> {
     pub nodes: Vec<Node, A>,
 }
 
+// Whether a size isn't empty. Each side fits an `i32`.
+#[inline]
+fn is_size(size: Size) -> bool {
+    size.is_positive()
+}
+
 impl<A: Allocator + Copy> AtlasAllocator<A> {
     /// The atlas as plain data. `Memory` is the only error.
     #[inline]
@@ -46,7 +52,7 @@ impl<A: Allocator + Copy> AtlasAllocator<A> {
             nodes,
         } = image;
         let (size, limit, unused) = (*size, *limit, *unused);
-        if !size.is_positive()
+        if !is_size(size)
             || !options.is_valid()
             || limit > MOST_SLOTS
             || nodes.len() > limit as usize

@@ -5,8 +5,8 @@ use super::changes::file_area;
 use super::SimpleAtlasAllocator;
 use crate::atlas_model::{AllocatorOptions, AtlasError, Rectangle, Size};
 use crate::atlas_search::bands::Scale;
-use crate::guillotiere::simple::apart::are_apart_in;
-use crate::guillotiere::simple::boxes::FreeBoxes;
+use crate::guillotiere::simple::apart::{are_disjoint, are_within};
+use crate::guillotiere::simple::boxes::{FreeBox, FreeBoxes};
 use wollemigo_support::alloc::{AllocError, Allocator, Global};
 use wollemigo_support::prelude::Vec;
 
@@ -17,49 +17,60 @@ pub struct SimpleImage<A: Allocator = Global> {
     pub free: Vec<Rectangle, A>,
 }
 
-// Whether a box has sides above 0, and lies within a size.
+// Whether data are those of a simple allocator.
 #[inline]
-fn is_within(area: &Rectangle, size: Size) -> bool {
-    area.min.x >= 0
-        && area.min.y >= 0
-        && !area.is_empty()
-        && area.max.x <= size.width
-        && area.max.y <= size.height
+fn is_simple<A: Allocator + Copy>(alloc: A, image: &SimpleImage<A>) -> Result<bool, AllocError> {
+    if !image.size.is_positive() {
+        return Ok(false);
+    }
+    if !image.options.is_valid() {
+        return Ok(false);
+    }
+    if !are_within(&image.free, image.size) {
+        return Ok(false);
+    }
+    are_disjoint(alloc, &image.free, image.size)
 }
 
-// Whether all do.
+// Whether an entry is a free box.
 #[inline]
-fn are_within(boxes: &[Rectangle], size: Size) -> bool {
-    for area in boxes {
-        if !is_within(area, size) {
-            return false;
+fn is_free(entry: &FreeBox) -> bool {
+    entry.area.min.x < entry.area.max.x
+}
+
+// The rectangles of the free entries.
+#[inline]
+fn free_entry_areas<A: Allocator>(
+    alloc: A,
+    entries: &[FreeBox],
+) -> Result<Vec<Rectangle, A>, AllocError> {
+    let mut areas = Vec::new(alloc);
+    for entry in entries {
+        if is_free(entry) {
+            areas.push(entry.area)?;
         }
     }
-    true
+    Ok(areas)
 }
 
-// Whether boxes within a size are disjoint.
+// Adds rectangles, and room for them.
 #[inline]
-fn are_disjoint<A: Allocator + Copy>(
-    alloc: A,
-    boxes: &[Rectangle],
-    size: Size,
-) -> Result<bool, AllocError> {
-    let mut sorted = Vec::from_slice(alloc, boxes)?;
-    sorted.sort_unstable_by_key(|area| area.min.y);
-    are_apart_in(alloc, &sorted, 0, size.width)
+fn file_areas<A: Allocator>(
+    boxes: &mut FreeBoxes<A>,
+    areas: &[Rectangle],
+    options: &Scale,
+) -> Result<(), AtlasError> {
+    for area in areas {
+        file_area(boxes, *area, options)?;
+    }
+    Ok(())
 }
 
 impl<A: Allocator + Copy> SimpleAtlasAllocator<A> {
     /// The allocator as plain data. `Memory` is the only error.
     #[inline]
     pub fn image(&self) -> Result<SimpleImage<A>, AtlasError> {
-        let mut free = Vec::new(*self.boxes.entries.allocator());
-        for entry in &self.boxes.entries {
-            if entry.area.min.x < entry.area.max.x {
-                free.push(entry.area)?;
-            }
-        }
+        let free = free_entry_areas(*self.boxes.entries.allocator(), &self.boxes.entries)?;
         Ok(SimpleImage {
             size: self.size,
             options: self.options.plain(),
@@ -72,26 +83,15 @@ impl<A: Allocator + Copy> SimpleAtlasAllocator<A> {
     /// sort them. `Memory` is the only error.
     #[inline]
     pub fn from_image(alloc: A, image: &SimpleImage<A>) -> Result<Option<Self>, AtlasError> {
-        let SimpleImage {
-            size,
-            options,
-            free,
-        } = image;
-        let size = *size;
-        if !size.is_positive() || !options.is_valid() || !are_within(free, size) {
+        if !is_simple(alloc, image)? {
             return Ok(None);
         }
-        if !are_disjoint(alloc, free, size)? {
-            return Ok(None);
-        }
-        let options = Scale::new(options);
+        let options = Scale::new(&image.options);
         let mut boxes = FreeBoxes::new(alloc)?;
-        for area in free {
-            file_area(&mut boxes, *area, &options)?;
-        }
+        file_areas(&mut boxes, &image.free, &options)?;
         Ok(Some(SimpleAtlasAllocator {
             boxes,
-            size,
+            size: image.size,
             options,
         }))
     }
