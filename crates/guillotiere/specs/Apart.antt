@@ -37,6 +37,11 @@ abbrev pub AreStacked : (low high : ℤ) → List Rectangle → Type 0
 AreStacked low high rs =
     AllPairs (λ r s. (is_full low high r ≡ true) ⊎ (is_full low high s ≡ true) → r.max.y ≤ℤ s.min.y) rs
 
+-- An end, and the same with a box's, if that counts.
+abbrev pub IsEndWith : (end : ℤ) (counts : Bool) → Rectangle → (end' : ℤ) → Type 0
+IsEndWith end counts r end' =
+    ((counts ≡ true) × (end ≤ℤ r.max.y) × (end' ≡ r.max.y)) ⊎ ((counts ≡ true → r.max.y ≤ℤ end) × (end' ≡ end))
+
 -- No unit square from column `low` to column `high` lies in two boxes.
 abbrev pub AreApartIn : (low high : ℕ) → List Box → Type 0
 AreApartIn low high bs = (x y : ℕ) → low ≤ x → x < high → count_by (covers x y) bs ≤ 1

@@ -1,6 +1,6 @@
 -- Boxes of which one begins too early aren't disjoint.
-use Rattle.std.proofs.Common.{ℕ, ℤ, pos, ◌<◌, ◌≤◌, ◌≤ℤ◌, ◌<ℤ◌, ◌≡◌, ◌⊎◌, Bool, true, false, List, [], ◌∷◌, refl}
-use Rattle.std.proofs.Common.{sym, ap, ◌∙◌, inl, inr, arith, zero, suc, length, map, max, get_or, All, int_lt}
+use Rattle.std.proofs.Common.{ℕ, ℤ, pos, ◌<◌, ◌≤◌, ◌≤ℤ◌, ◌<ℤ◌, ◌≡◌, ◌⊎◌, ◌&&◌, Bool, true, false, not, List, [], ◌∷◌, refl}
+use Rattle.std.proofs.Common.{sym, ap, inl, inr, arith, zero, suc, length, map, max, get_or, All, int_lt}
 use Rattle.std.proofs.lemmas.Int.{ints}
 use Rattle.std.proofs.lemmas.Bool.{and_from, and_parts, cases_Bool, le-leb, lt-ltb}
 use Rattle.std.proofs.lemmas.List.Elements.{filter_passes}
@@ -136,14 +136,10 @@ module _ (low high : ℤ) (rs : List Rectangle) (slab : IsSlab low high) (solid 
     ]
 
     -- Where it begins above the end that it has to lie below, boxes aren't apart.
-    pub crossed-by : (b : Bool) → b ≡ is_full low high (get_or rs i e) → (least : ℤ) → int_lt (get_or rs i e).min.y least ≡ true
-        → ((b ≡ true) × (least ≡ all)) ⊎ ((b ≡ false) × (least ≡ through)) → ⊥
-    crossed-by b says least above is =
-        let l = less-true (get_or rs i e).min.y least above in
-        elim is [
-          | inl f ↦ crossed_full (sym says ∙ f.0) (omega (arith, ints, l, f.1))
-          | inr f ↦ crossed_other (omega (arith, ints, l, f.1))
-        ]
+    pub crossed-by : (b : Bool) → b ≡ is_full low high (get_or rs i e) → (b ≡ true → (get_or rs i e).min.y <ℤ all)
+        → (b ≡ false → (get_or rs i e).min.y <ℤ through) → ⊥
+    crossed-by true says full other = crossed_full (sym says) (full refl)
+    crossed-by false says full other = crossed_other (other refl)
 
 -- Those of a part are apart, and from the part.
 pub part-from : (low high left right : ℤ) (rs : List Rectangle) → AreFrom low high rs
@@ -155,8 +151,8 @@ part-from low high left right rs h = record {
   where
     one : (r : Rectangle) → is_part low high left right r ≡ true → (r.min.x <ℤ right) × (left <ℤ r.max.x)
     one r e =
-        let p = and_parts _ _ e in
-        let q = and_parts _ _ p.0 in
+        let p = and_parts (not (is_full low high r) && int_lt r.min.x right) (int_lt left r.max.x) e in
+        let q = and_parts (not (is_full low high r)) (int_lt r.min.x right) p.0 in
         (less-true r.min.x right q.1, less-true left r.max.x p.1)
 
 pub part-apart : (low high left right : ℤ) (rs : List Rectangle) → natural low ≤ natural left → natural right ≤ natural high

@@ -1,6 +1,7 @@
 -- How the loop goes on that looks whether boxes are stacked.
-use Rattle.std.proofs.Common.{ℕ, ℤ, pos, negsuc, ◌+◌, ◌<◌, ◌≤◌, ◌≤ℤ◌, ◌<ℤ◌, ◌≡◌, ◌⊎◌, Bool, true, false, List, [], ◌∷◌, ◌++◌, refl, sym, ap, ◌∙◌}
+use Rattle.std.proofs.Common.{ℕ, ℤ, pos, negsuc, ◌+◌, ◌<◌, ◌≤◌, ◌≤ℤ◌, ◌<ℤ◌, ◌≡◌, ◌⊎◌, ◌↔◌, Bool, true, false, List, [], ◌∷◌, ◌++◌, refl, sym, ap, ◌∙◌}
 use Rattle.std.proofs.Common.{inl, inr, arith, length, get_or, take, cond, subst, int_le, int_lt}
+use Rattle.std.specs.Prelude.{IsTrue}
 use Rattle.std.specs.List.{filter}
 use Rattle.std.proofs.lemmas.Int.{ints}
 use Rattle.std.proofs.lemmas.Bool.{cases_Bool, cases_eq, true≢false}
@@ -8,7 +9,7 @@ use Rattle.std.proofs.lemmas.List.{append-nil, get_or_default}
 use Rattle.std.proofs.lemmas.List.Elements.{filter_more}
 use Rattle.atlas_model.specs.declared.geometry.Rectangle.{Rectangle}
 use Rattle.atlas_model.specs.Pixels.{natural}
-use Rattle.guillotiere.specs.Apart.{AreStacked, is_full}
+use Rattle.guillotiere.specs.Apart.{AreStacked, IsEndWith, is_full}
 
 -- A number from 0 on.
 pub exact : (z : ℤ) → pos 0 ≤ℤ z → z ≡ pos (natural z)
@@ -54,8 +55,7 @@ pub record IsNext (low high : ℤ) (all through : ℤ) (r : Rectangle) (all' thr
   pub under_all : is_full low high r ≡ true → all ≤ℤ r.min.y
   pub under_full : is_full low high r ≡ false → through ≤ℤ r.min.y
   pub all_is : ((all ≤ℤ r.max.y) × (all' ≡ r.max.y)) ⊎ ((r.max.y ≤ℤ all) × (all' ≡ all))
-  pub through_is : ((is_full low high r ≡ true) × (through ≤ℤ r.max.y) × (through' ≡ r.max.y))
-      ⊎ ((is_full low high r ≡ true → r.max.y ≤ℤ through) × (through' ≡ through))
+  pub through_is : IsEndWith through (is_full low high r) r through'
 
 module _ (low high : ℤ) (rs : List Rectangle) (i : ℕ) (all through : ℤ) (e : Rectangle) (inside : i < length rs)
     (t : IsStackedTo low high rs i all through) where
@@ -141,37 +141,32 @@ less-false a b e = grind (arith, ints)
 pub most-true : (a b : ℤ) → int_le a b ≡ true → a ≤ℤ b
 most-true a b e = grind (arith, ints)
 
--- What the tests of an iteration say of the box r, of which `b` tells whether it goes through.
-pub record AreTested (b : Bool) (all through least : ℤ) (r : Rectangle) (all' through' : ℤ) : Type 0 where
-  pub below : int_lt r.min.y least ≡ false
-  pub least_all : b ≡ true → least ≡ all
-  pub least_through : b ≡ false → least ≡ through
-  pub all_is : ((int_lt all r.max.y ≡ true) × (all' ≡ r.max.y)) ⊎ ((int_lt all r.max.y ≡ false) × (all' ≡ all))
-  pub through_is : ((b ≡ true) × (int_lt through r.max.y ≡ true) × (through' ≡ r.max.y))
-      ⊎ ((b ≡ true → int_lt through r.max.y ≡ false) × (through' ≡ through))
+-- Not less.
+pub no-less : (b : Bool) (a z : ℤ) → IsTrue b ↔ (a <ℤ z) → b ≡ false → z ≤ℤ a
+no-less b a z h e = elim (cases_Bool (int_lt a z)) [
+  | inl l ↦ absurd (true≢false (sym (h.1 (less-true a z l)) ∙ e))
+  | inr n ↦ less-false a z n
+]
 
-pub tested-next : (low high all through least : ℤ) (b : Bool) (r : Rectangle) (all' through' : ℤ) → b ≡ is_full low high r
-    → AreTested b all through least r all' through' → IsNext low high all through r all' through'
-tested-next low high all through least b r all' through' says t = record {
-  under_all = λ f. rw (sym (t.least_all (says ∙ f))) (less-false r.min.y least t.below);
-  under_full = λ f. rw (sym (t.least_through (says ∙ f))) (less-false r.min.y least t.below);
-  all_is = elim t.all_is [
-    | inl a ↦ inl (omega (arith, ints, less-true all r.max.y a.0), a.1)
-    | inr a ↦ inr (less-false all r.max.y a.0, a.1)
-  ];
-  through_is = elim t.through_is [
-    | inl a ↦ inl (sym says ∙ a.0, omega (arith, ints, less-true through r.max.y a.1), a.2)
-    | inr a ↦ inr (λ f. less-false through r.max.y (a.0 (says ∙ f)), a.1)
-  ];
-}
-
--- The loop goes on past a box.
-pub stacked-on : (low high : ℤ) (rs : List Rectangle) (i : ℕ) (all through least : ℤ) (e : Rectangle) (b : Bool)
-    → b ≡ is_full low high (get_or rs i e) → i < length rs → IsStackedTo low high rs i all through → (all' through' : ℤ)
-    → AreTested b all through least (get_or rs i e) all' through' → IsStackedTo low high rs (i + 1) all' through'
-stacked-on low high rs i all through least e b says inside t all' through' n =
-    stacked-next low high rs i all through e inside t all' through'
-    (tested-next low high all through least b (get_or rs i e) all' through' says n)
+-- The loop goes on past a box, of which `b` tells whether it goes through.
+module _ (low high : ℤ) (rs : List Rectangle) (i : ℕ) (all through : ℤ) (e : Rectangle) (b : Bool)
+    (says : b ≡ is_full low high (get_or rs i e)) (below_all : b ≡ true → all ≤ℤ (get_or rs i e).min.y)
+    (below_full : b ≡ false → through ≤ℤ (get_or rs i e).min.y) where
+  pub stacked-on : i < length rs → IsStackedTo low high rs i all through → (all' through' : ℤ)
+      → IsEndWith all true (get_or rs i e) all' → IsEndWith through b (get_or rs i e) through' → (end end_full : ℤ) → all' ≡ end
+      → through' ≡ end_full → IsStackedTo low high rs (i + 1) end end_full
+  stacked-on inside t all' through' all_is through_is end end_full same same_full =
+      subst (λ z. IsStackedTo low high rs (i + 1) z end_full) same
+      (subst (λ z. IsStackedTo low high rs (i + 1) all' z) same_full
+      (stacked-next low high rs i all through e inside t all' through' (record {
+        under_all = λ f. below_all (says ∙ f);
+        under_full = λ f. below_full (says ∙ f);
+        all_is = elim all_is [
+          | inl a ↦ inl (a.1, a.2)
+          | inr a ↦ inr (a.0 refl, a.1)
+        ];
+        through_is = subst (λ c. IsEndWith through c (get_or rs i e) through') says through_is;
+      })))
 
 -- One more is looked at.
 pub all-next : {X : Type 0} (P : X → Type 0) (xs : List X) (i : ℕ) (e : X) → i < length xs → P (get_or xs i e)

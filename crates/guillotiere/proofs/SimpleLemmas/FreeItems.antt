@@ -7,10 +7,10 @@ use Rattle.guillotiere.specs.FreeBoxes.BoxShelves.{free_item_boxes}
 use Rattle.atlas_search.specs.Items.{Item, item_at, item_box}
 use Rattle.atlas_search.specs.Lookups.{AreFreeItems}
 
-free-first : (t : Item) (es : List Item) → t.is_free ≡ true → free_item_boxes (t ∷ es) ≡ item_box t ∷ free_item_boxes es
+pub free-first : (t : Item) (es : List Item) → t.is_free ≡ true → free_item_boxes (t ∷ es) ≡ item_box t ∷ free_item_boxes es
 free-first t es f = cond-true t.is_free (item_box t ∷ free_item_boxes es) (free_item_boxes es) f
 
-idle-first : (t : Item) (es : List Item) → t.is_free ≡ false → free_item_boxes (t ∷ es) ≡ free_item_boxes es
+pub idle-first : (t : Item) (es : List Item) → t.is_free ≡ false → free_item_boxes (t ∷ es) ≡ free_item_boxes es
 idle-first t es f = cond-false t.is_free (item_box t ∷ free_item_boxes es) (free_item_boxes es) f
 
 -- An entry of this box.

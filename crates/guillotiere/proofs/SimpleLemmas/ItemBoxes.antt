@@ -13,7 +13,6 @@ use Rattle.guillotiere.specs.FreeBoxes.BoxShelves.{has_width, stored_item, free_
 use Rattle.atlas_model.specs.Pixels.{box_of}
 use Rattle.atlas_search.specs.Items.{Item, no_item, item_at, item_box}
 use Rattle.atlas_search.specs.Rectangles.{IsSolid}
-use Rattle.atlas_search.specs.Numbers.{same}
 use Rattle.atlas_model.proofs.ListLemmas.ListCounts.{count_by-cons}
 use Rattle.atlas_model.proofs.TreeLemmas.TreeBasics.{same_box-true, same_box-itself}
 

@@ -3,7 +3,7 @@ ghost use Rattle.std.specs.Prelude.{◌≡◌, ◌-ℤ◌, ◌≤ℤ◌, ◌<ℤ
 ghost use Rattle.atlas_model.specs.Boxes.{AreDisjoint, IsPositive};
 ghost use Rattle.atlas_model.specs.Pixels.{box_of, natural, sides_of};
 ghost use Rattle.atlas_search.specs.Rectangles.{IsSolid};
-ghost use Rattle.guillotiere.specs.Apart.{AreApartIn, AreFrom, AreHalves, AreStacked, IsSlab, IsSolidWithin};
+ghost use Rattle.guillotiere.specs.Apart.{AreApartIn, AreFrom, AreHalves, AreStacked, IsEndWith, IsSlab, IsSolidWithin};
 ghost use Rattle.guillotiere.specs.Apart.{LiesAcross, LiesAlong, LiesWithin, TellsApart, is_full, is_part};
 
 use atlas_model::{Rectangle, Size};
@@ -56,7 +56,7 @@ fn middle(slab: Slab) -> i32
 }
 
 // A slab of two columns or more, in two.
-fn halves(slab: Slab) -> Halves
+fn halve(slab: Slab) -> Halves
     requires slab { IsSlab slab.low slab.high }
     requires more { pos 2 ≤ℤ (slab.high -ℤ slab.low) }
     ensures { AreHalves slab.low slab.high result.first.low result.first.high result.second.low result.second.high }
@@ -85,6 +85,30 @@ fn whole(size: Size) -> Slab
     }
 }
 
+// Whether a box begins above the end that it has to lie below: that of all boxes before it if it goes through, otherwise that of those
+// that go through.
+fn is_above(area: &Rectangle, is_full: bool, all: i32, full: i32) -> bool
+    ensures all { is_full ≡ true → IsTrue result ↔ (area.now.min.y <ℤ all) }
+    ensures full { is_full ≡ false → IsTrue result ↔ (area.now.min.y <ℤ full) }
+{
+    if is_full {
+        area.min.y < all
+    } else {
+        area.min.y < full
+    }
+}
+
+// The end of some boxes and of one more, if that one counts.
+fn end_with(end: i32, area: &Rectangle, counts: bool) -> i32
+    ensures { IsEndWith end counts area.now result }
+{
+    if counts && end < area.max.y {
+        area.max.y
+    } else {
+        end
+    }
+}
+
 // Whether of boxes in this order each that goes through a slab lies below all before it, and each of the others below those before it
 // that go through. It is so of disjoint boxes that come from the top down.
 fn are_stacked(boxes: &[Rectangle], slab: Slab) -> bool
@@ -98,16 +122,11 @@ fn are_stacked(boxes: &[Rectangle], slab: Slab) -> bool
     let mut full = 0;
     for area in boxes {
         let is_full = is_full(area, slab);
-        let least = if is_full { all } else { full };
-        if area.min.y < least {
+        if is_above(area, is_full, all, full) {
             return false;
         }
-        if all < area.max.y {
-            all = area.max.y;
-        }
-        if is_full && full < area.max.y {
-            full = area.max.y;
-        }
+        all = end_with(all, area, true);
+        full = end_with(full, area, is_full);
     }
     true
 }
@@ -150,7 +169,7 @@ fn are_apart_in<A: Allocator + Copy>(
     if is_one(slab) {
         return Ok(true);
     }
-    let halves = halves(slab);
+    let halves = halve(slab);
     let left = parts(alloc, boxes, slab, halves.first)?;
     if !are_apart_in(alloc, &left, halves.first)? {
         return Ok(false);

@@ -25,9 +25,9 @@ are_apart_in-requires g t c κs within =
     let low = c.args.slab.low in
     let high = c.args.slab.high in
     let rs = c.args.boxes.now in
-    let a = c.halves-halves.result.first in
-    let b = c.halves-halves.result.second in
-    let h = c.halves-halves.ensures in
+    let a = c.halve-halves.result.first in
+    let b = c.halve-halves.result.second in
+    let h = c.halve-halves.ensures in
     let solid = All-filter (is_part low high a.low a.high) IsSolid rs c.requires.solid in (
       omega (arith, c.decreases, halved-first-less low high rs a.low a.high b.low b.high h),
       (
@@ -44,9 +44,9 @@ returns-then-not-branch g t c =
     let low = c.args.slab.low in
     let high = c.args.slab.high in
     let rs = c.args.boxes.now in
-    let a = c.halves-halves.result.first in
-    let b = c.halves-halves.result.second in
-    halved-told-first low high rs a.low a.high b.low b.high c.halves-halves.ensures
+    let a = c.halve-halves.result.first in
+    let b = c.halve-halves.result.second in
+    halved-told-first low high rs a.low a.high b.low b.high c.halve-halves.ensures
     (subst (λ (l : List Rectangle). TellsApart a.low a.high l false) (c.deref.ensures.value ∙ c.in_ok-left.ensures)
     (subst (TellsApart a.low a.high c.deref.result.now) c.if-not-branch.true c.in_ok-are_apart_in.ensures))
 
@@ -55,9 +55,9 @@ are_apart_in-requires-2 g t c κs within =
     let low = c.args.slab.low in
     let high = c.args.slab.high in
     let rs = c.args.boxes.now in
-    let a = c.halves-halves.result.first in
-    let b = c.halves-halves.result.second in
-    let h = c.halves-halves.ensures in
+    let a = c.halve-halves.result.first in
+    let b = c.halve-halves.result.second in
+    let h = c.halve-halves.ensures in
     let solid = All-filter (is_part low high b.low b.high) IsSolid rs c.requires.solid in (
       omega (arith, c.decreases, halved-second-less low high rs a.low a.high b.low b.high h),
       (
@@ -74,12 +74,12 @@ returns g t c =
     let low = c.args.slab.low in
     let high = c.args.slab.high in
     let rs = c.args.boxes.now in
-    let a = c.halves-halves.result.first in
-    let b = c.halves-halves.result.second in
+    let a = c.halve-halves.result.first in
+    let b = c.halve-halves.result.second in
     let left = subst (λ (l : List Rectangle). TellsApart a.low a.high l true) (c.deref.ensures.value ∙ c.in_ok-left.ensures)
     (subst (TellsApart a.low a.high c.deref.result.now) c.if-not-branch.false c.in_ok-are_apart_in.ensures) in
     IfOk-weaker c.are_apart_in-2.result (TellsApart b.low b.high c.deref-2.result.now) (TellsApart low high rs)
-    (λ answer told. halved-told-second low high rs a.low a.high b.low b.high c.halves-halves.ensures
+    (λ answer told. halved-told-second low high rs a.low a.high b.low b.high c.halve-halves.ensures
     (c.are_stacked.ensures.stacked c.if-not-are_stacked.false) left answer
     (subst (λ (l : List Rectangle). TellsApart b.low b.high l answer) (c.deref-2.ensures.value ∙ c.in_ok-right.ensures) told))
     c.are_apart_in-2.ensures
