@@ -1,7 +1,8 @@
 //! The best free box that a search was shown.
 ghost use Rattle.std.specs.Prelude.{◌≡◌, ◌≢◌, ◌<◌, ◌≤◌, ◌++◌, ◌∷◌, [], ℕ, Bool, List, pos};
-ghost use Rattle.std.specs.Prelude.{◌+◌, ◌<ℤ◌, ◌≤ℤ◌, ◌↔◌, IsTrue, IfSome, None, Contains, false};
-ghost use Rattle.atlas_model.specs.Boxes.{IsNonempty, IsPositive, Sides, box_sides};
+ghost use Rattle.std.specs.Prelude.{◌+◌, ◌<ℤ◌, ◌≤ℤ◌, ◌↔◌, IsTrue, IfSome, None, Contains, false, true};
+ghost use Rattle.atlas_model.specs.Boxes.{Box, IsNonempty, IsPositive, Sides, box_sides};
+ghost use Rattle.atlas_model.specs.Choice.{ComesFirst};
 ghost use Rattle.atlas_model.specs.Pixels.{box_of, natural, sides_of};
 ghost use Rattle.atlas_search.specs.Ranks.{corner_of, no_corner, no_rank, rank_of, IsReach};
 ghost use Rattle.atlas_search.specs.Rectangles.{IsUnsigned};
@@ -194,6 +195,24 @@ impl Best {
             return false;
         }
         !cell.is_beyond(self.size, self.reach)
+    }
+
+    /// Whether no box of a size in this cell that begins at this corner or later is better than the best, since each leaves over as much as
+    /// that or more. It isn't said where the best has an equal side, nor of a large request.
+    #[inline(always)]
+    pub fn ends_in(&self, cell: Cell, corner: u64) -> bool
+        ensures { result ≡ true → (is_large : Bool) (r : Sides) (shown more : List Shown) (b : Box)
+            → corner ≡ corner_of b → b.min.x < 4294967296 → HasSeen self.now is_large r shown
+            → ((c : Shown) → Contains more c → IsIn (box_sides c.box) cell × ComesFirst b c.box)
+            → HasSeen self.now is_large r (shown ++ more) }
+    {
+        if corner < self.corner {
+            return false;
+        }
+        if self.reach == 0 {
+            return false;
+        }
+        cell.is_beyond(self.size, self.reach - 1)
     }
 
     /// A size such that no box is better than the best that is both wider and higher; None as long as none is known, where the

@@ -218,6 +218,13 @@ pub seen-passed : (s : Best) (is_large : Bool) (r : Sides) (shown more : List Sh
 seen-passed s is_large r shown more seen zero none =
     seen-over s is_large r shown more seen zero (λ b narrow cornered c has e. absurd (none c has e))
 
+-- The best's least margin is its rank, and 0 where the request is large.
+margin-reached : (s : Best) (r : Sides) (l : Bool) (b : Box) → least_margin r b < no_rank → s.rank ≡ rank_of l (least_margin r b)
+    → (l ≡ true → s.rank ≡ 0) → (least_margin r b ≡ s.rank) × (l ≡ true → least_margin r b ≡ 0)
+margin-reached s r false b below ranked ends = (sym ranked, λ e. sym ranked ∙ ends e)
+margin-reached s r true b below ranked ends =
+    let z = rank-zero true _ below (sym ranked ∙ ends refl) in (z ∙ sym (ends refl), λ _. z)
+
 -- So are boxes that leave over more than the best does.
 pub seen-worse : (s : Best) (is_large : Bool) (r : Sides) (shown more : List Shown) → HasSeen s is_large r shown
     → IsReach s.reach s.rank s.is_large
@@ -253,13 +260,6 @@ seen-worse s is_large r shown more seen reach worse = record {
   ];
 }
   where
-    -- The best's least margin is its rank, and 0 where the request is large.
-    margin : (l : Bool) (b : Box) → least_margin r b < no_rank → s.rank ≡ rank_of l (least_margin r b) → (l ≡ true → s.rank ≡ 0)
-        → (least_margin r b ≡ s.rank) × (l ≡ true → least_margin r b ≡ 0)
-    margin false b below ranked ends = (sym ranked, λ e. sym ranked ∙ ends e)
-    margin true b below ranked ends =
-        let z = rank-zero true _ below (sym ranked ∙ ends refl) in (z ∙ sym (ends refl), λ _. z)
-
     far : (l : Bool) (b c : Box) → Fits r (box_sides b) → Fits r (box_sides c) → (l ≡ true → least_margin r b ≡ 0)
         → least_margin r b < least_margin r c → IsAsGood l r b c × (IsAsGood l r c b → ⊥)
     far false b c fb fc e h = (omega (arith, h), λ g. omega (arith, h, g))
@@ -271,9 +271,52 @@ seen-worse s is_large r shown more seen reach worse = record {
     less : (k : IsKeptOf is_large r shown s.rank s.corner s.at.number) (c : Shown) → s.reach < least_margin r c.box
         → Fits r (box_sides c.box) → IsAsGood is_large r k.box c.box × (IsAsGood is_large r c.box k.box → ⊥)
     less k c h fits =
-        let m = margin is_large k.box k.below k.ranked (λ e. reach.ends (seen.large ∙ e)) in
+        let m = margin-reached s r is_large k.box k.below k.ranked (λ e. reach.ends (seen.large ∙ e)) in
         let e = reach.same in
         far is_large k.box c.box k.best.fits fits m.1 (omega (arith, h, m.0, e))
+
+-- So are boxes that leave over as much as the best does or more, and come no earlier.
+pub seen-later : (s : Best) (is_large : Bool) (r : Sides) (shown more : List Shown) → HasSeen s is_large r shown
+    → IsReach s.reach s.rank s.is_large
+    → ((b : Box) → b.min.x < 4294967296 → s.corner ≡ corner_of b → (c : Shown) → Contains more c → ComesFirst b c.box)
+    → ((c : Shown) → Contains more c → s.reach ≤ least_margin r c.box) → HasSeen s is_large r (shown ++ more)
+seen-later s is_large r shown more seen reach later most = record {
+  positive = seen.positive;
+  size = seen.size;
+  large = seen.large;
+  best = elim seen.best [
+    | inl n ↦ absurd (omega (arith, n.0, reach.below))
+    | inr k ↦ inr (
+      k.0,
+      record {
+        box = k.1.box;
+        narrow = k.1.narrow;
+        below = k.1.below;
+        ranked = k.1.ranked;
+        cornered = k.1.cornered;
+        best = record {
+          is_shown = Contains-append_left shown more _ k.1.best.is_shown;
+          fits = k.1.best.fits;
+          best = λ c has fits. elim (Contains-append_cases shown more c has) [
+            | inl x ↦ k.1.best.best c x fits
+            | inr y ↦
+                let m = margin-reached s r is_large k.1.box k.1.below k.1.ranked (λ e. reach.ends (seen.large ∙ e)) in
+                no_less r is_large k.1.box c.box k.1.best.fits m.1 (omega (arith, most c y, m.0, reach.same))
+          ];
+          first = λ c has fits good. elim (Contains-append_cases shown more c has) [
+            | inl x ↦ k.1.best.first c x fits good
+            | inr y ↦ later k.1.box k.1.narrow k.1.cornered c y
+          ];
+        };
+      },
+    )
+  ];
+}
+  where
+    no_less : (r : Sides) (l : Bool) (b c : Box) → Fits r (box_sides b) → (l ≡ true → least_margin r b ≡ 0)
+        → least_margin r b ≤ least_margin r c → IsAsGood l r b c
+    no_less r false b c fb z h = h
+    no_less r true b c fb z h = inl (equal_side-margin r b fb (z refl))
 
 pub not-out : (b : Bool) → not b ≡ false → b ≡ true
 not-out true e = refl

@@ -138,6 +138,33 @@ module _ {E : Type 0} (item : E → Item) (xs : List E) (c : Cell) (top : ℕ) (
       subst (λ (g : Heap). HasShown (map item xs) (members g) before after) (sym heap-top.is)
       (shown as-top.up c heap-top.left heap-top.right as-top.heap as-top.routed)
 
+  -- The top was shown, and none that hangs below it is better: each has a size of the cell, and comes no earlier than the top.
+  pub heap-ended : (before b : Best) → HasShown (map item xs) (top ∷ []) before b → (a : Rectangle) → a ≡ (item x).area
+      → FitsSigned w32 a.min.x → (corner : ℕ) → corner ≡ corner_of (box_of a)
+      → ((is_large : Bool) (r : Sides) (shown more : List Shown) (d : Box) → corner ≡ corner_of d → d.min.x < 4294967296
+      → HasSeen b is_large r shown → ((e : Shown) → Contains more e → IsIn (box_sides e.box) c × ComesFirst d e.box)
+      → HasSeen b is_large r (shown ++ more))
+      → HasShown (map item xs) (members h) before b
+  heap-ended before b shown a area narrow corner cornered ended =
+      let es = map item xs in
+      let t = heap-top in
+      let below = members t.left ++ members t.right in
+      let box_is : box_of a ≡ item_box (item_at es top) = ap box_of area ∙ ap item_box heap-read in
+      subst (λ (g : Heap). HasShown es (members g) before b) (sym t.is)
+      (shown-then es (top ∷ []) below before b b shown (λ is_large r seen_before seen.
+      ended is_large r seen_before (shown_items es below) (box_of a) cornered
+      (let most = natural-most a.min.x narrow in omega (arith, most)) seen
+      (λ d has.
+      let i = shown_items-in es below d has in
+      let among : 0 < occurs i.0 (members (Top top t.left t.right)) =
+      omega (arith, i.1, occurs-append i.0 (members t.left) (members t.right), occurs-top i.0 top t.left t.right) in (
+        subst (λ (q : Shown). IsIn (box_sides q.box) c) (sym i.2)
+            (routed-in es c (Top top t.left t.right) s.is_cell as-top.routed i.0 among),
+        subst (λ (q : Shown). ComesFirst (box_of a) q.box) (sym i.2)
+            (subst (λ (q : Box). ComesFirst q (item_box (item_at es i.0))) (sym box_is)
+            (top-first es as-top.up top top t.left t.right as-top.heap i.0 among)),
+      ))))
+
   -- The top is a fork.
   module _ (isf : (item x).is_fork ≡ true) where
     routes : IsSplit c × IsRouted (map item xs) (low c) heap-top.left × IsRouted (map item xs) (high c) heap-top.right

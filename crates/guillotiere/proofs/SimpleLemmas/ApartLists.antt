@@ -1,5 +1,6 @@
 -- No unit square of a slab lies in two boxes, if none lies in two that don't go through it.
-use Rattle.std.proofs.Common.{ℕ, ◌+◌, ◌<◌, ◌≤◌, ◌≡◌, ◌⊎◌, Bool, true, false, not, List, [], ◌∷◌, refl, sym, ap, ◌∙◌, inl, inr, arith, suc, length, get_or}
+use Rattle.std.proofs.Common.{ℕ, ◌+◌, ◌<◌, ◌≤◌, ◌≡◌, ◌⊎◌, Bool, true, false, not, List, [], ◌∷◌, refl, sym, ap, ◌∙◌, inl, inr, arith, suc}
+use Rattle.std.proofs.Common.{length, get_or}
 use Rattle.std.specs.List.{count_by, filter}
 use Rattle.atlas_model.proofs.ListLemmas.ListCounts.{count_by-cons}
 use Rattle.atlas_model.proofs.TreeLemmas.TreeBasics.{one_if}

@@ -92,7 +92,8 @@ order-of rs sorted i j d l m =
 module _ (rs sorted : List Rectangle) (size : Size) (same : IsPermutation rs sorted)
     (within : All (IsSolidWithin (sides_of size)) rs) (positive : IsPositive (sides_of size)) where
   counts : (x y : ℕ) → count_by (covers x y) (map box_of sorted) ≡ count_by (covers x y) (map box_of rs)
-  counts x y = sum_by-IsPermutation (λ b. one_if (covers x y b)) (map box_of rs) (map box_of sorted) (IsPermutation-map box_of rs sorted same)
+  counts x y =
+      sum_by-IsPermutation (λ b. one_if (covers x y b)) (map box_of rs) (map box_of sorted) (IsPermutation-map box_of rs sorted same)
 
   pub sorted-within : All (IsSolidWithin (sides_of size)) sorted
   sorted-within = All-permutation (IsSolidWithin (sides_of size)) rs sorted same within
