@@ -14,5 +14,5 @@ returns g c =
       tree = imaged c.args.nodes.now c.in_ok-order.order c.args.size c.args.options.now (c.are_members.ensures members)
           (none-unused c.args.nodes.now (omega (arith, c.requires.short))) first.used first.previous first.parent
           c.requires.positive;
-      line = c.in_ok-lined.ensures (search rules);
+      line = c.in_ok-lined.ensures.sound (search rules);
     }
