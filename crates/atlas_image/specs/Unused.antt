@@ -4,7 +4,6 @@ use Rattle.atlas_search.specs.Numbers.{front, occurs}
 use Rattle.atlas_store.specs.declared.slots.Node.{Node}
 use Rattle.atlas_store.specs.declared.slots.NodeKind.{NodeKind}
 use Rattle.atlas_store.specs.declared.slots.NodeKind.TheVariants as kind
-use Rattle.atlas_store.specs.Slots.{node_at}
 use Rattle.atlas_store.specs.Store.Restoring.{NodeLine}
 
 abbrev pub is_unused_kind : NodeKind → Bool

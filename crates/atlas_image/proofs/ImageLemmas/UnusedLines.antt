@@ -2,13 +2,13 @@
 use Rattle.std.proofs.Common.{ℕ, ◌+◌, ◌<◌, ◌≤◌, ◌≡◌, ◌≢◌, Bool, true, false, List, [], ◌∷◌, ◌++◌, refl, sym, ap, ◌∙◌, inl, inr, arith, zero, suc}
 use Rattle.std.proofs.Common.{length, map, set, slice_index_or, get_or-set_other, get_or-set_same, subst}
 use Rattle.std.proofs.lemmas.Bool.{cases_eq, cases_lt}
-use Rattle.std.proofs.lemmas.List.{get_or_past, length-map}
+use Rattle.std.proofs.lemmas.List.{get_or_past}
 use Rattle.atlas_image.specs.Unused.{AreUnmarked, IsMarkedLine, IsTakenFrom, count_of, is_unused, is_unused_kind, mark_count}
 use Rattle.atlas_search.specs.Numbers.{front, no_slot, occurs, same}
 use Rattle.atlas_store.specs.declared.slots.Node.{Node}
 use Rattle.atlas_store.specs.declared.slots.NodeKind.{NodeKind}
 use Rattle.atlas_store.specs.declared.slots.NodeKind.TheVariants as kind
-use Rattle.atlas_store.specs.Slots.{blank_node, node_at, use_count}
+use Rattle.atlas_store.specs.Slots.{node_at, use_count}
 use Rattle.atlas_store.specs.Store.Restoring.{IsUnusedLine, NodeLine}
 use Rattle.atlas_search.proofs.Occurrences.{length-distinct}
 use Rattle.atlas_store.proofs.SlotLemmas.Frames.{same-self, same-ne}

@@ -1,4 +1,4 @@
-use Rattle.std.proofs.Common.{◌≡◌, ◌∙◌, true, false, ap, arith, length, map, refl, rules, subst, sym}
+use Rattle.std.proofs.Common.{◌≡◌, ◌∙◌, true, false, ap, arith, length, rules, subst, sym}
 use Rattle.std.proofs.lemmas.List.{length-map}
 use Rattle.atlas_image.specs.Unused.{IsMarkedLine, IsTakenFrom, is_unused}
 use Rattle.atlas_image.proofs.ImageLemmas.UnusedLines.{unused-line, unused-marked, unused-unmarked}

@@ -1,4 +1,4 @@
-use Rattle.std.proofs.Common.{◌≡◌, ◌<◌, ◌+◌, [], ◌∷◌, ◌++◌, true, false, ap, arith, length, refl, rules, set, slice_index_or, subst, sym}
+use Rattle.std.proofs.Common.{◌≡◌, ◌+◌, [], ◌∷◌, ◌++◌, true, false, ap, arith, refl, rules, set, slice_index_or, subst, sym}
 use Rattle.std.proofs.lemmas.Bool.{eqb-true, eq-eqb}
 use Rattle.atlas_image.specs.Unused.{count_of}
 use Rattle.atlas_image.proofs.ImageLemmas.UnusedLines.{
