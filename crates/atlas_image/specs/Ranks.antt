@@ -1,5 +1,6 @@
 -- The first members that are noted, and ranks that are given breadth first. No public clause cites this module.
-use Rattle.std.specs.Prelude.{ℕ, ◌+◌, ◌<◌, ◌≤◌, ◌≡◌, ◌≢◌, ◌⊎◌, ◌==◌, if◌then◌else◌, List, [], ◌∷◌, ◌++◌, length, map, slice_index, slice_set, slice_index_or, sum_by}
+use Rattle.std.specs.Prelude.{ℕ, ◌+◌, ◌<◌, ◌≤◌, ◌≡◌, ◌≢◌, ◌⊎◌, ◌==◌, if◌then◌else◌, List, [], ◌∷◌, ◌++◌, length, map}
+use Rattle.std.specs.Prelude.{slice_index, slice_set, slice_index_or, sum_by}
 use Rattle.atlas_image.specs.declared.order.Order.{Order}
 use Rattle.atlas_image.specs.Members.{IsFirstOf, IsUsed, first_in, no_first}
 use Rattle.atlas_search.specs.declared.link.Link.{Link}

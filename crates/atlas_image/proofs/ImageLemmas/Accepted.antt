@@ -2,7 +2,8 @@
 use Rattle.std.proofs.Common.{ℕ, pos, ◌+◌, ◌<◌, ◌≡◌, ◌≢◌, List, refl, sym, ap, ◌∙◌, arith, subst, length}
 use Rattle.atlas_image.specs.declared.order.Order.{Order}
 use Rattle.atlas_image.specs.Imaged.{AreMembers, IsTreeOf}
-use Rattle.atlas_image.specs.Members.{IsAfter, IsFirst, IsFirstOf, IsMember, IsSettled, IsUsed, first_in, frame_in, rank_in, whole_rectangle}
+use Rattle.atlas_image.specs.Members.{IsAfter, IsFirst, IsFirstOf, IsMember, IsSettled, IsUsed, first_in, frame_in}
+use Rattle.atlas_image.specs.Members.{rank_in, whole_rectangle}
 use Rattle.atlas_image.proofs.ImageLemmas.GrownOnce.{RanksFall, before-after, before-first}
 use Rattle.atlas_image.proofs.ImageLemmas.OneFirst.{first-once}
 use Rattle.atlas_image.proofs.ImageLemmas.PlacedMembers.{IsIn, IsPlaced, first_inside, placed-all, some_total}

@@ -126,16 +126,16 @@ module _ {A : Type 0} (ns : List Node) (o : Order A) (s : Sequence) (n : Numbere
       (λ i p e t inner h l z. first_noted i (first_slot inner) (first_in_standing ns t i p e inner h z))
       (λ a y l r lead ne.
       let used : IsUsed (node_at ns a) = omega (arith, stands.numbered a, l) in
-      led-ranked (LeadsTo ns d) o.top.number order.ranked.queue o.ranks.items order.ranked.seen order.ranked.seen order.ranked.ranking order.ranked.all a y r
-      lead (omega (arith, order.ranked.long, held y (leads_used a y used lead ne))))
+      led-ranked (LeadsTo ns d) o.top.number order.ranked.queue o.ranks.items order.ranked.seen order.ranked.seen
+      order.ranked.ranking order.ranked.all a y r lead (omega (arith, order.ranked.long, held y (leads_used a y used lead ne))))
       s no_slot 0 n (λ y. omega arith) (stands.numbered no_slot ∙ ap use_count none) stands.standing
       (λ _. subst (IsRanked o.ranks.items) top_is (order.ranked.begun (omega (arith, held o.top.number top_used, order.ranked.long)))) x
       (omega (arith, stands.numbered x, u))
 
   falls : RanksFall ns (rank_in o)
   falls k u nz =
-      rank-falls (LeadsTo ns d) o.top.number order.ranked.queue o.ranks.items order.ranked.seen order.ranked.seen order.ranked.ranking order.ranked.all
-      (before (node_at ns k)) k (all_ranked k u)
+      rank-falls (LeadsTo ns d) o.top.number order.ranked.queue o.ranks.items order.ranked.seen order.ranked.seen
+      order.ranked.ranking order.ranked.all (before (node_at ns k)) k (all_ranked k u)
       (λ e. nz (first_before k (e ∙ top_is)))
       (λ a lead r. sym (leads_before a k (ranked_used (suc (get_or o.ranks.items a 0)) a (omega arith) r) lead (some k u)))
     where

@@ -5,7 +5,8 @@ use Rattle.std.proofs.lemmas.Bool.{cases_eq}
 use Rattle.std.proofs.lemmas.List.{get_or-replicate, get_or_append_left, length-map, length-replicate}
 use Rattle.std.proofs.Math.Seq.{take-nil}
 use Rattle.std.proofs.lemmas.List.Sums.{sum_by-cons, sum_by-set}
-use Rattle.atlas_image.specs.Ranks.{AreBlank, AreRanked, IsAdded, IsEnqueued, IsRanked, IsRanking, IsWalkedTo, LeadsTo, firsts_of, lacks, no_rank, numbers_in, unranked}
+use Rattle.atlas_image.specs.Ranks.{AreBlank, AreRanked, IsAdded, IsEnqueued, IsRanked, IsRanking, IsWalkedTo}
+use Rattle.atlas_image.specs.Ranks.{LeadsTo, firsts_of, lacks, no_rank, numbers_in, unranked}
 use Rattle.atlas_image.proofs.ImageLemmas.Ranking.{added-keeps, lacks_none, lacks_some, looked-at, looks-on}
 use Rattle.atlas_search.specs.declared.link.Link.{Link}
 use Rattle.atlas_store.specs.declared.slots.Node.{Node}

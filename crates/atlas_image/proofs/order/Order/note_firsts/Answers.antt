@@ -1,6 +1,7 @@
 use Rattle.std.proofs.Common.{◌≡◌, ◌∙◌, arith, refl, subst}
 use Rattle.atlas_image.specs.Ranks.{AreNoted, IsNoting}
 use Rattle.atlas_image.proofs.ImageLemmas.Noted.{noted-more, noted-none}
+use Rattle.atlas_search.specs.declared.link.Link.{Link}
 use Rattle.atlas_image.proofs.order.Order.note_firsts.Goals as goal
 
 pub loop-number-init : goal.loop-number-init
@@ -11,9 +12,12 @@ pub loop-number-preserved : goal.loop-number-preserved
 loop-number-preserved g c =
     let was = c.loop-number.invariant in
     let step = c.note_first.ensures in
+    let old = c.loop-number.self in
+    let new = c.note_first.new.self in
+    let at : Link = record { number = c.loop-number.number } in
     record {
-      noted = noted-more c.args.nodes.now c.loop-number.self c.note_first.new.self c.loop-number.number (record { number = c.loop-number.number }) refl was.long
-          (subst (λ n. IsNoting c.loop-number.self c.note_first.new.self n (record { number = c.loop-number.number })) c.node-member.ensures step) was.noted;
+      noted = noted-more c.args.nodes.now old new c.loop-number.number at refl was.long
+          (subst (λ n. IsNoting old new n at) c.node-member.ensures step) was.noted;
       long = step.long ∙ was.long;
       ranks = step.ranks ∙ was.ranks;
     }
