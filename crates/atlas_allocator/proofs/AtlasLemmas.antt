@@ -16,3 +16,4 @@ pub mod RehearsedIds
 pub mod FreeRoom
 pub mod SlotSteps
 pub mod ImagedAtlas
+pub mod KeptAtlas

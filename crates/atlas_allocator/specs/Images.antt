@@ -1,5 +1,5 @@
 -- What an atlas stores, as plain data.
-use Rattle.std.specs.Prelude.{ℕ, List, length, map}
+use Rattle.std.specs.Prelude.{ℕ, ◌≡◌, List, length, map}
 use Rattle.atlas_model.specs.declared.geometry.Size.{Size}
 use Rattle.atlas_model.specs.declared.options.AllocatorOptions.{AllocatorOptions}
 use Rattle.atlas_search.specs.declared.link.Link.{Link}
@@ -9,7 +9,7 @@ use Rattle.atlas_model.specs.Pixels.{options_of, sides_of}
 use Rattle.atlas_model.specs.States.{State}
 use Rattle.atlas_store.specs.Slots.Reading.{tree_of}
 use Rattle.atlas_store.specs.Store.Restoring.{image_node}
-use Rattle.atlas_store.specs.Stored.{AtlasValue}
+use Rattle.atlas_store.specs.Stored.{AtlasValue, IsAtlas}
 
 -- The data: what an atlas stores but for its lists of free slots. The node of an unused slot says which one comes next.
 pub record Image : Type 0 where
@@ -34,6 +34,12 @@ image_of v =
       unused = v.stored.shelf.unused;
       nodes = map image_node v.stored.shelf.slots;
     }
+
+-- The data are those of some atlas.
+pub record IsImage (i : Image) : Type 0 where
+  pub atlas : AtlasValue
+  pub is_atlas : IsAtlas atlas.stored
+  pub image : image_of atlas ≡ i
 
 -- The state that data describe.
 abbrev pub state_in : Image → State

@@ -1,3 +1,4 @@
 pub mod Members
+pub mod Ranks
 pub mod Unused
 pub mod Imaged

@@ -1,5 +1,5 @@
 -- Marks of unused slots, and the list that takes them away. No public clause cites this module.
-use Rattle.std.specs.Prelude.{ℕ, ◌+◌, ◌≡◌, ◌<◌, Bool, true, false, List, length, slice_index_or}
+use Rattle.std.specs.Prelude.{ℕ, ◌+◌, ◌≡◌, ◌<◌, ◌≤◌, Bool, true, false, List, length, slice_index_or}
 use Rattle.atlas_search.specs.Numbers.{front, occurs}
 use Rattle.atlas_store.specs.declared.slots.Node.{Node}
 use Rattle.atlas_store.specs.declared.slots.NodeKind.{NodeKind}
@@ -23,6 +23,12 @@ mark_count marks i = count_of (slice_index_or marks i false)
 
 abbrev pub AreUnmarked : List Bool → Type 0
 AreUnmarked marks = (i : ℕ) → i < length marks → mark_count marks i ≡ 0
+
+-- The list xs begins at `first`, and has marked slots alone, none twice.
+pub record IsMarkedLine (ns : List Node) (marks : List Bool) (first : ℕ) (xs : List ℕ) : Type 0 where
+  pub line : NodeLine ns xs
+  pub begins : first ≡ front xs
+  pub marked : (i : ℕ) → occurs i xs ≤ mark_count marks i
 
 -- The list xs begins at `first`, and its slots are those whose marks went.
 pub record IsTakenFrom (ns : List Node) (old new : List Bool) (first : ℕ) (xs : List ℕ) : Type 0 where

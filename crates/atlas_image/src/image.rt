@@ -1,5 +1,5 @@
 //! Whether nodes are those of an atlas.
-ghost use Rattle.std.specs.Prelude.{◌≡◌, ◌≤◌, ◌↔◌, IsTrue, IfOk, IfSome, length};
+ghost use Rattle.std.specs.Prelude.{◌≡◌, ◌≤◌, ◌↔◌, IsTrue, IfOk, IfNone, IfSome, length};
 ghost use Rattle.atlas_model.specs.Boxes.{IsPositive};
 ghost use Rattle.atlas_model.specs.Choice.{AreValid};
 ghost use Rattle.atlas_model.specs.Pixels.{options_of, sides_of};
@@ -33,7 +33,7 @@ fn are_members<A: Allocator>(
 ) -> bool
     requires short { length nodes.now ≤ most_slots }
     requires valid { AreValid (options_of options.now) }
-    ensures { IsTrue result → AreMembers nodes.now order.now size options.now }
+    ensures { IsTrue result ↔ AreMembers nodes.now order.now size options.now }
 {
     for number in 0..nodes.len() {
         let at = Link {
@@ -84,7 +84,9 @@ pub fn first_of<A: Allocator + Copy>(
     requires short { length nodes.now ≤ most_slots }
     requires positive { IsPositive (sides_of size) }
     requires valid { AreValid (options_of options.now) }
-    ensures { IfOk result (λ found. IfSome found (λ first. AreImaged nodes.now unused size options.now first)) }
+    ensures imaged { IfOk result (λ found. IfSome found (λ first. AreImaged nodes.now unused size options.now first)) }
+    ensures complete { IfOk result (λ found. IfNone found ((first : Link) → AreImaged nodes.now unused size options.now first
+        → ⊥)) }
 {
     let order = Order::of(alloc, nodes)?;
     let first = node(nodes, order.top);

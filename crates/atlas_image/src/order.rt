@@ -1,7 +1,9 @@
 //! The first member of each sequence, and ranks of the used slots.
-ghost use Rattle.std.specs.Prelude.{◌≡◌, ◌≤◌, ◌<◌, IsTrue, length};
+ghost use Rattle.std.specs.Prelude.{◌≡◌, ◌≤◌, ◌<◌, ◌+◌, ◌↔◌, [], IsTrue, IfOk, length};
 ghost use Rattle.atlas_model.specs.Trees.{most_slots};
 ghost use Rattle.atlas_image.specs.Members.{rank_in, first_in};
+ghost use Rattle.atlas_image.specs.Ranks.{AreBlank, AreNoted, AreRanked, IsEnqueued, IsNoting, IsOrderOf, IsWalkedTo, LacksRank};
+ghost use Rattle.atlas_image.specs.Ranks.{numbers_in};
 
 use crate::members::{is_container, is_used, node};
 use atlas_search::link::{Link, NO_SLOT};
@@ -46,14 +48,19 @@ impl<A: Allocator> Order<A> {
 
     // Whether there is such a slot, and it has no rank.
     fn lacks_rank(&self, at: Link) -> bool
-        ensures { IsTrue result → at.number < length self.now.ranks.items }
+        ensures { IsTrue result ↔ LacksRank self.now.ranks.items at.number }
     {
         let i = at.number as usize;
         i < self.ranks.len() && self.ranks[i] == NO_RANK
     }
 
     // Gives a slot a rank and puts it in the queue, unless it has one.
-    fn enqueue(&mut self, queue: &mut Vec<Link, A>, at: Link, rank: u32) -> Result<(), AllocError> {
+    fn enqueue(&mut self, queue: &mut Vec<Link, A>, at: Link, rank: u32) -> Result<(), AllocError>
+        ensures top { self.new.top ≡ self.old.top }
+        ensures firsts { self.new.firsts.items ≡ self.old.firsts.items }
+        ensures queued { IfOk result (λ _. IsEnqueued (numbers_in queue.old.items) (numbers_in queue.new.items)
+            self.old.ranks.items self.new.ranks.items at.number rank) }
+    {
         if !self.lacks_rank(at) {
             return Ok(());
         }
@@ -63,7 +70,9 @@ impl<A: Allocator> Order<A> {
     }
 
     // Notes a slot, if that comes first somewhere.
-    fn note_first(&mut self, member: &Node, at: Link) {
+    fn note_first(&mut self, member: &Node, at: Link)
+        ensures { IsNoting self.old self.new member.now at }
+    {
         if !is_used(member) {
             return;
         }
@@ -83,7 +92,10 @@ impl<A: Allocator> Order<A> {
 
     // Notes which members come first.
     fn note_firsts(&mut self, nodes: &[Node])
-        requires { length nodes.now ≤ most_slots }
+        requires short { length nodes.now ≤ most_slots }
+        requires long { length self.old.firsts.items ≡ length nodes.now }
+        ensures noted { AreNoted nodes.now self.new (length nodes.now) }
+        ensures ranks { self.new.ranks.items ≡ self.old.ranks.items }
     {
         for number in 0..nodes.len() {
             let at = Link {
@@ -101,8 +113,13 @@ impl<A: Allocator> Order<A> {
         nodes: &[Node],
         place: usize,
     ) -> Result<(), AllocError>
-        requires short { place < most_slots }
+        requires short { length nodes.now ≤ most_slots }
         requires inside { place < length queue.old.items }
+        requires walked { IsWalkedTo nodes.now self.old.top self.old.firsts.items queue.old.items self.old.ranks.items place }
+        ensures top { self.new.top ≡ self.old.top }
+        ensures firsts { self.new.firsts.items ≡ self.old.firsts.items }
+        ensures walked { IfOk result (λ _. IsWalkedTo nodes.now self.old.top self.old.firsts.items queue.new.items
+            self.new.ranks.items (place + 1)) }
     {
         let at = queue[place];
         let member = node(nodes, at);
@@ -119,7 +136,13 @@ impl<A: Allocator> Order<A> {
     // Gives each slot that is come to from the first one a rank: 0 the first one, and each other one 1 more than the place in the queue of
     // the slot that leads to it.
     fn note_ranks(&mut self, queue: &mut Vec<Link, A>, nodes: &[Node]) -> Result<(), AllocError>
-        requires { length nodes.now ≤ most_slots }
+        requires short { length nodes.now ≤ most_slots }
+        requires none { queue.old.items ≡ [] }
+        requires blank { AreBlank self.old.ranks.items }
+        requires long { length self.old.ranks.items ≡ length nodes.now }
+        ensures top { self.new.top ≡ self.old.top }
+        ensures firsts { self.new.firsts.items ≡ self.old.firsts.items }
+        ensures ranked { IfOk result (λ _. AreRanked nodes.now self.old.top self.old.firsts.items self.new.ranks.items) }
     {
         let top = self.top;
         self.enqueue(queue, top, 0)?;
@@ -137,6 +160,7 @@ impl<A: Allocator> Order<A> {
     where
         A: Copy,
         requires { length nodes.now ≤ most_slots }
+        ensures { IfOk result (λ order. IsOrderOf nodes.now order) }
     {
         let mut order = Order {
             top: Link::NONE,

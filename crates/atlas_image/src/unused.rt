@@ -1,6 +1,7 @@
 //! The list of unused slots.
-ghost use Rattle.std.specs.Prelude.{◌≡◌, ◌↔◌, ℕ, List, true, length, map, IfOk, IsTrue};
-ghost use Rattle.atlas_image.specs.Unused.{is_unused, AreUnmarked, IsTakenFrom};
+ghost use Rattle.std.specs.Prelude.{◌≡◌, ◌<◌, ◌↔◌, ℕ, List, true, length, map, IfOk, IsTrue};
+ghost use Rattle.atlas_image.specs.Unused.{is_unused, AreUnmarked, IsMarkedLine, IsTakenFrom};
+ghost use Rattle.atlas_search.specs.Numbers.{no_slot};
 ghost use Rattle.atlas_store.specs.Store.Restoring.{IsUnusedLine};
 
 use crate::members::node;
@@ -29,7 +30,9 @@ fn marks_of<A: Allocator>(alloc: A, nodes: &[Node]) -> Result<Vec<bool, A>, Allo
 // Whether the list that begins at `first` goes through marked slots alone, and none twice; their marks go.
 fn take_marks(nodes: &[Node], marks: &mut [bool], first: Link) -> bool
     requires { length marks.old ≡ length nodes.now }
-    ensures { result ≡ true → (xs : List ℕ) × IsTakenFrom nodes.now marks.old marks.new first.number xs }
+    ensures sound { result ≡ true → (xs : List ℕ) × IsTakenFrom nodes.now marks.old marks.new first.number xs }
+    ensures complete { length nodes.now < no_slot → (xs : List ℕ) → IsMarkedLine nodes.now marks.old first.number xs
+        → (result ≡ true) × IsTakenFrom nodes.now marks.old marks.new first.number xs }
 {
     let mut at = first;
     for _step in 0..nodes.len() {
@@ -64,7 +67,8 @@ fn are_unmarked(marks: &[bool]) -> bool
 // Whether the list that begins at `first` goes through all marked slots, each once, and no other slot.
 fn take_all(nodes: &[Node], marks: &mut [bool], first: Link) -> bool
     requires { marks.old ≡ map is_unused nodes.now }
-    ensures { result ≡ true → (xs : List ℕ) × IsUnusedLine nodes.now first.number xs }
+    ensures sound { result ≡ true → (xs : List ℕ) × IsUnusedLine nodes.now first.number xs }
+    ensures complete { length nodes.now < no_slot → (xs : List ℕ) → IsUnusedLine nodes.now first.number xs → result ≡ true }
 {
     if !take_marks(nodes, marks, first) {
         return false;
@@ -74,7 +78,9 @@ fn take_all(nodes: &[Node], marks: &mut [bool], first: Link) -> bool
 
 /// Whether the list of unused slots that begins at `first` has each of them once, and no other slot.
 pub fn are_lined<A: Allocator>(alloc: A, nodes: &[Node], first: Link) -> Result<bool, AllocError>
-    ensures { IfOk result (λ lined. lined ≡ true → (xs : List ℕ) × IsUnusedLine nodes.now first.number xs) }
+    ensures sound { IfOk result (λ lined. lined ≡ true → (xs : List ℕ) × IsUnusedLine nodes.now first.number xs) }
+    ensures complete { IfOk result (λ lined. length nodes.now < no_slot → (xs : List ℕ)
+        → IsUnusedLine nodes.now first.number xs → lined ≡ true) }
 {
     let mut marks = marks_of(alloc, nodes)?;
     let lined = take_all(nodes, &mut marks, first);

@@ -153,17 +153,17 @@ images_at [] i l = refl
 images_at (s ∷ ss) zero l = ap (λ v. record (node_of s) { next = v }) (used_image s.kind s l)
 images_at (s ∷ ss) (suc i) l = images_at ss i l
 
-kinds_at : (ss : List Slot) (i : ℕ) → (node_at (map image_node ss) i).kind ≡ (node_at (nodes ss) i).kind
-kinds_at [] i = refl
-kinds_at (s ∷ ss) zero = refl
-kinds_at (s ∷ ss) (suc i) = kinds_at ss i
+pub kinds-at : (ss : List Slot) (i : ℕ) → (node_at (map image_node ss) i).kind ≡ (node_at (nodes ss) i).kind
+kinds-at [] i = refl
+kinds-at (s ∷ ss) zero = refl
+kinds-at (s ∷ ss) (suc i) = kinds-at ss i
 
-image_stands : (ss : List Slot) (s : Sequence) (n : Numbered) → Stands (nodes ss) s n → Stands (map image_node ss) s n
-image_stands ss s n h =
+pub image-stands : (ss : List Slot) (s : Sequence) (n : Numbered) → Stands (nodes ss) s n → Stands (map image_node ss) s n
+image-stands ss s n h =
     record {
       standing = Standing-same (nodes ss) (map image_node ss) s no_slot 0 n
           (λ j l. images_at ss j (omega (arith, h.numbered j, l))) h.standing;
-      numbered = λ i. h.numbered i ∙ ap use_count (sym (kinds_at ss i));
+      numbered = λ i. h.numbered i ∙ ap use_count (sym (kinds-at ss i));
     }
 
 -- The data of an atlas have its tree.
@@ -174,7 +174,7 @@ image-tree v a =
     let few : length ss ≤ 16777216 = a.holds.short in
     let some : HasMember h.tree = nonempty-IsAtlas v a in
     let one = tree_of-Stands (map image_node ss) h.sequence h.tree (omega (arith, few, length-map ss image_node)) a.holds.top
-    (image_stands ss h.sequence h.tree a.holds.stands) some in
+    (image-stands ss h.sequence h.tree a.holds.stands) some in
     let other = tree_of-Stands (nodes ss) h.sequence h.tree (omega (arith, few, length-map ss node_of)) a.holds.top
     a.holds.stands some in
     one ∙ sym other

@@ -1,5 +1,5 @@
 //! An atlas as plain data, and an atlas made of such data, whoever gives them.
-ghost use Rattle.std.specs.Prelude.{◌≡◌, ◌<◌, ◌^◌, ◌↔◌, IfOk, IfSome, IsOkUnless, IsTrue};
+ghost use Rattle.std.specs.Prelude.{◌≡◌, ◌≢◌, ◌<◌, ◌^◌, ◌↔◌, IfOk, IfSome, IsOkUnless, IsTrue, None, Ok};
 ghost use Rattle.atlas_model.specs.Boxes.{IsPositive};
 ghost use Rattle.atlas_model.specs.Pixels.{sides_of};
 
@@ -32,7 +32,7 @@ fn is_size(size: Size) -> bool
 }
 
 impl<A: Allocator + Copy> AtlasAllocator<A> {
-    ghost use Rattle.atlas_allocator.specs.Images.{image_of, described, state_in};
+    ghost use Rattle.atlas_allocator.specs.Images.{image_of, described, state_in, IsImage};
     ghost use Rattle.atlas_store.specs.Stored.{state_of};
 
     /// The atlas as plain data. `Memory` is the only error.
@@ -40,6 +40,7 @@ impl<A: Allocator + Copy> AtlasAllocator<A> {
         ensures unless { IsOkUnless result AtlasError.Memory }
         ensures image { IfOk result (λ image. described image ≡ image_of self.now) }
         ensures state { state_in (image_of self.now) ≡ state_of self.now }
+        ensures atlas { IfOk result (λ image. IsImage (described image)) }
     {
         Ok(AtlasImage {
             size: self.size,
@@ -58,6 +59,7 @@ impl<A: Allocator + Copy> AtlasAllocator<A> {
         ensures image { IfOk result (λ found. IfSome found (λ it. image_of it ≡ described image.now)) }
         ensures state { IfOk result (λ found. IfSome found (λ it. state_of it ≡ state_in (described image.now))) }
         ensures turns { IfOk result (λ found. IfSome found (λ it. it.turns ≡ 0)) }
+        ensures complete { IsImage (described image.now) → result ≢ Ok None }
     {
         let AtlasImage {
             size,
