@@ -42,7 +42,7 @@ fn blank_node() -> Node
 }
 
 /// The node of a slot. Past the end and at no slot it is a blank one, which is unused.
-pub fn node(nodes: &[Node], at: Link) -> Node
+pub(crate) fn node(nodes: &[Node], at: Link) -> Node
     ensures { result ≡ node_at nodes.now at.number }
 {
     match nodes.get(at.number as usize) {
@@ -52,21 +52,21 @@ pub fn node(nodes: &[Node], at: Link) -> Node
 }
 
 /// Whether a slot is used.
-pub fn is_used(node: &Node) -> bool
+pub(crate) fn is_used(node: &Node) -> bool
     ensures { IsTrue result ↔ IsUsed node.now }
 {
     node.kind != NodeKind::Unused
 }
 
 /// Whether a slot is a container.
-pub fn is_container(node: &Node) -> bool
+pub(crate) fn is_container(node: &Node) -> bool
     ensures { IsTrue result ↔ (node.now.kind ≡ Container) }
 {
     node.kind == NodeKind::Container
 }
 
 /// Where a rectangle lies along an axis.
-pub fn span_of(area: &Rectangle, axis: Orientation) -> Span
+pub(crate) fn span_of(area: &Rectangle, axis: Orientation) -> Span
     ensures { result ≡ span_in axis area.now }
 {
     match axis {
@@ -82,7 +82,7 @@ pub fn span_of(area: &Rectangle, axis: Orientation) -> Span
 }
 
 /// The rectangle that the sequence of a member divides: that of its container, or the whole atlas.
-pub fn frame(nodes: &[Node], size: Size, member: &Node) -> Rectangle
+pub(crate) fn frame(nodes: &[Node], size: Size, member: &Node) -> Rectangle
     ensures { result ≡ frame_in nodes.now size member.now }
 {
     if member.parent.number == NO_SLOT {
@@ -93,7 +93,7 @@ pub fn frame(nodes: &[Node], size: Size, member: &Node) -> Rectangle
 }
 
 /// Whether a rectangle has sides above 0, and no corner below 0.
-pub fn is_solid(area: &Rectangle) -> bool
+pub(crate) fn is_solid(area: &Rectangle) -> bool
     ensures { IsTrue result ↔ IsSolid area.now }
 {
     area.min.x >= 0 && area.min.y >= 0 && area.min.x < area.max.x && area.min.y < area.max.y
@@ -182,7 +182,7 @@ fn is_filled<A: Allocator>(nodes: &[Node], order: &Order<A>, at: Link, member: &
 }
 
 /// Whether all that a used slot says of its place agrees with its neighbours.
-pub fn is_member<A: Allocator>(
+pub(crate) fn is_member<A: Allocator>(
     nodes: &[Node],
     order: &Order<A>,
     size: Size,

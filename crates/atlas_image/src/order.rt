@@ -24,7 +24,7 @@ pub struct Order<A: Allocator> {
 
 impl<A: Allocator> Order<A> {
     /// The first member of the sequence that a slot holds, or of the top sequence.
-    pub fn first(&self, parent: Link) -> Link
+    pub(crate) fn first(&self, parent: Link) -> Link
         ensures { result ≡ first_in self.now parent.number }
     {
         if parent.number == NO_SLOT {
@@ -37,7 +37,7 @@ impl<A: Allocator> Order<A> {
     }
 
     /// The rank of a slot; past the end it is 0.
-    pub fn rank(&self, at: Link) -> u32
+    pub(crate) fn rank(&self, at: Link) -> u32
         ensures { result ≡ rank_in self.now at.number }
     {
         match self.ranks.get(at.number as usize) {
@@ -156,7 +156,7 @@ impl<A: Allocator> Order<A> {
     }
 
     /// The order of these nodes.
-    pub fn of(alloc: A, nodes: &[Node]) -> Result<Order<A>, AllocError>
+    pub(crate) fn of(alloc: A, nodes: &[Node]) -> Result<Order<A>, AllocError>
     where
         A: Copy,
         requires { length nodes.now ≤ most_slots }

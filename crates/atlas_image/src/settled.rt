@@ -35,7 +35,7 @@ fn is_calm(nodes: &[Node], member: &Node) -> bool
 }
 
 /// Whether a used slot is one of a normal tree, and aligned where it is granted.
-pub fn is_settled(nodes: &[Node], options: &AllocatorOptions, member: &Node) -> bool
+pub(crate) fn is_settled(nodes: &[Node], options: &AllocatorOptions, member: &Node) -> bool
     requires solid { IsSolid member.now.area }
     requires valid { AreValid (options_of options.now) }
     ensures { IsTrue result ↔ IsSettled nodes.now options.now member.now }

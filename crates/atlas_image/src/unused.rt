@@ -77,7 +77,11 @@ fn take_all(nodes: &[Node], marks: &mut [bool], first: Link) -> bool
 }
 
 /// Whether the list of unused slots that begins at `first` has each of them once, and no other slot.
-pub fn are_lined<A: Allocator>(alloc: A, nodes: &[Node], first: Link) -> Result<bool, AllocError>
+pub(crate) fn are_lined<A: Allocator>(
+    alloc: A,
+    nodes: &[Node],
+    first: Link,
+) -> Result<bool, AllocError>
     ensures sound { IfOk result (λ lined. lined ≡ true → (xs : List ℕ) × IsUnusedLine nodes.now first.number xs) }
     ensures complete { IfOk result (λ lined. length nodes.now < no_slot → (xs : List ℕ)
         → IsUnusedLine nodes.now first.number xs → lined ≡ true) }
