@@ -1,4 +1,4 @@
--- Boxes that are disjoint, within a slab. No public clause cites this module.
+-- Boxes that are disjoint, within a slab. Of this module public clauses cite `IsSolidWithin` alone.
 use Rattle.std.specs.Prelude.{ℕ, ℤ, pos, ◌≡◌, ◌⊎◌, ◌≤◌, ◌<◌, ◌≤ℤ◌, ◌<ℤ◌, ◌&&◌, Bool, true, false, not, List, All, AllPairs, count_by}
 use Rattle.std.specs.Prelude.{int_le, int_lt, map}
 use Rattle.atlas_model.specs.declared.geometry.Rectangle.{Rectangle}

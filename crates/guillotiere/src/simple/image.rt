@@ -1,9 +1,8 @@
 //! A simple allocator as plain data, and one made of such data, whoever gives them.
-ghost use Rattle.std.specs.Prelude.{◌≡◌, ◌≢◌, ◌↔◌, ◌≤◌, ◌++◌, IsTrue, None, Ok, All, IfOk, IfSome, IsOkUnless, OnOk, length, map};
+ghost use Rattle.std.specs.Prelude.{◌≡◌, ◌↔◌, ◌≤◌, ◌++◌, IsTrue, All, IfOk, IfSome, IsOkUnless, IsSome, OnOk, length, map};
 ghost use Rattle.std.specs.Prelude.{vec_capacity};
 ghost use Rattle.atlas_model.specs.Boxes.{AreSameBoxes, IsNonempty};
 ghost use Rattle.atlas_model.specs.Pixels.{box_of, options_of};
-ghost use Rattle.atlas_model.specs.Simple.{IsSimple, SimpleState};
 ghost use Rattle.atlas_search.specs.Rectangles.{IsUnsigned};
 ghost use Rattle.guillotiere.specs.FreeBoxes.BoxShelves.{AreKept, box_shelf, free_item_boxes, has_width};
 ghost use Rattle.guillotiere.specs.FreeBoxes.FreeEntries.{free_entry_areas};
@@ -77,6 +76,7 @@ fn file_areas<A: Allocator>(
     ensures kept { OnOk result (AreKept (options_of options.now) (box_shelf boxes.new)) }
     ensures boxes { OnOk result (AreSameBoxes (free_item_boxes (box_shelf boxes.new).entries)
         (map box_of areas.now ++ free_item_boxes (box_shelf boxes.old).entries)) }
+    ensures used { OnOk result (boxes.new.used ≡ length (box_shelf boxes.new).entries) }
     ensures capacity { vec_capacity boxes.old.entries ≤ vec_capacity boxes.new.entries }
 {
     for area in areas {
@@ -86,13 +86,13 @@ fn file_areas<A: Allocator>(
 }
 
 impl<A: Allocator + Copy> SimpleAtlasAllocator<A> {
-    ghost use Rattle.guillotiere.specs.SimpleStored.{simple_state_of};
+    ghost use Rattle.guillotiere.specs.SimpleStored.{UsesEachEntry, simple_state_of};
 
     /// The allocator as plain data. `Memory` is the only error.
     pub fn image(&self) -> Result<SimpleImage<A>, AtlasError>
         ensures unless { IsOkUnless result AtlasError.Memory }
         ensures image { IfOk result (λ it. IsImageOf it (simple_state_of self.now)) }
-        ensures simple { IsSimple (simple_state_of self.now) }
+        ensures simple { IfOk result IsSimpleImage }
     {
         let free = free_entry_areas(*self.boxes.entries.allocator(), &self.boxes.entries)?;
         Ok(SimpleImage {
@@ -107,8 +107,9 @@ impl<A: Allocator + Copy> SimpleAtlasAllocator<A> {
     /// sort them. `Memory` is the only error.
     pub fn from_image(alloc: A, image: &SimpleImage<A>) -> Result<Option<Self>, AtlasError>
         ensures unless { IsOkUnless result AtlasError.Memory }
+        ensures accepted { IfOk result (λ found. IsSome found ↔ IsSimpleImage image.now) }
         ensures image { IfOk result (λ found. IfSome found (λ it. IsImageOf image.now (simple_state_of it))) }
-        ensures complete { (s : SimpleState) → IsSimple s → IsImageOf image.now s → result ≢ Ok None }
+        ensures entries { IfOk result (λ found. IfSome found UsesEachEntry) }
     {
         if !is_simple(alloc, image)? {
             return Ok(None);

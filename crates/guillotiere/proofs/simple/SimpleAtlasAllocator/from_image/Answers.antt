@@ -1,4 +1,4 @@
-use Rattle.std.proofs.Common.{List, [], ◌++◌, All, map, sym, ap, subst, ◌∙◌, arith}
+use Rattle.std.proofs.Common.{List, [], ◌++◌, All, map, refl, sym, ap, subst, ◌∙◌, arith}
 use Rattle.std.proofs.lemmas.Bool.{false≢true}
 use Rattle.atlas_model.specs.declared.geometry.Rectangle.{Rectangle}
 use Rattle.atlas_model.specs.declared.options.AllocatorOptions.{AllocatorOptions}
@@ -8,12 +8,15 @@ use Rattle.atlas_model.specs.Pixels.{box_of, options_of, sides_of}
 use Rattle.atlas_search.specs.Items.{Item}
 use Rattle.guillotiere.specs.Apart.{IsSolidWithin}
 use Rattle.guillotiere.specs.FreeBoxes.BoxShelves.{box_shelf, free_item_boxes}
-use Rattle.guillotiere.proofs.SimpleLemmas.ImagedBoxes.{areas-exact, image-simple, made-image, made-simple}
+use Rattle.guillotiere.proofs.SimpleLemmas.EntryCounts.{used-free}
+use Rattle.guillotiere.proofs.SimpleLemmas.ImagedBoxes.{areas-exact, made-image, made-simple}
 use Rattle.guillotiere.proofs.simple.SimpleAtlasAllocator.from_image.Goals as goal
 
-pub returns-then-not-branch-clause-complete : goal.returns-then-not-branch-clause-complete
-returns-then-not-branch-clause-complete g c = λ s simple is e.
-    false≢true (sym c.if-not-branch.true ∙ c.in_ok-is_simple.ensures.1 (image-simple c.args.image.now s simple is))
+pub returns-then-not-branch-clause-accepted : goal.returns-then-not-branch-clause-accepted
+returns-then-not-branch-clause-accepted g c = (
+  λ some. absurd (false≢true some),
+  λ simple. absurd (false≢true (sym c.if-not-branch.true ∙ c.in_ok-is_simple.ensures.1 simple)),
+)
 
 pub file_areas-requires-clause-exact : goal.file_areas-requires-clause-exact
 file_areas-requires-clause-exact g c =
@@ -51,3 +54,11 @@ returns-clause-image g c =
     c.in_ok-file_areas.ensures.boxes) in
     made-image c.args.image.now simple (box_shelf c.file_areas.new.boxes).entries boxes c.new-options.result
     (ap options_of c.new-options.ensures)
+
+pub returns-clause-entries : goal.returns-clause-entries
+returns-clause-entries g c =
+    sym c.in_ok-file_areas.ensures.used ∙ used-free (options_of c.new-options.result) (box_shelf c.file_areas.new.boxes)
+    c.in_ok-file_areas.ensures.kept
+
+pub returns-clause-accepted : goal.returns-clause-accepted
+returns-clause-accepted g c = (λ some. c.in_ok-is_simple.ensures.0 c.if-not-branch.false, λ simple. refl)

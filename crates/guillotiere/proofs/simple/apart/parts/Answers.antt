@@ -1,4 +1,4 @@
-use Rattle.std.proofs.Common.{ap, ◌∙◌, arith}
+use Rattle.std.proofs.Common.{◌≡◌, arith, subst}
 use Rattle.std.specs.List.{filter}
 use Rattle.std.proofs.lemmas.List.{take_all}
 use Rattle.guillotiere.specs.Apart.{is_part}
@@ -20,5 +20,5 @@ loop-area-preserved g c =
 
 pub returns : goal.returns
 returns g c =
-    let p = is_part c.args.slab.low c.args.slab.high c.args.part.low c.args.part.high in
-    c.loop-area.invariant ∙ ap (filter p) (take_all c.loop-area.area-index c.args.boxes.now c.loop-area-test.false)
+    subst (λ l. c.loop-area.parts.items ≡ filter (is_part c.args.slab.low c.args.slab.high c.args.part.low c.args.part.high) l)
+    (take_all c.loop-area.area-index c.args.boxes.now c.loop-area-test.false) c.loop-area.invariant
