@@ -35,8 +35,7 @@ fn blank_node() -> Node {
 
 /// The node of a slot. Past the end and at no slot it is a blank one, which is unused.
 #[inline]
-#[must_use]
-pub fn node(nodes: &[Node], at: Link) -> Node {
+pub(crate) fn node(nodes: &[Node], at: Link) -> Node {
     match nodes.get(at.number as usize) {
         Some(node) => *node,
         None => blank_node(),
@@ -45,22 +44,19 @@ pub fn node(nodes: &[Node], at: Link) -> Node {
 
 /// Whether a slot is used.
 #[inline]
-#[must_use]
-pub fn is_used(node: &Node) -> bool {
+pub(crate) fn is_used(node: &Node) -> bool {
     node.kind != NodeKind::Unused
 }
 
 /// Whether a slot is a container.
 #[inline]
-#[must_use]
-pub fn is_container(node: &Node) -> bool {
+pub(crate) fn is_container(node: &Node) -> bool {
     node.kind == NodeKind::Container
 }
 
 /// Where a rectangle lies along an axis.
 #[inline]
-#[must_use]
-pub fn span_of(area: &Rectangle, axis: Orientation) -> Span {
+pub(crate) fn span_of(area: &Rectangle, axis: Orientation) -> Span {
     match axis {
         Orientation::Horizontal => Span {
             low: area.min.x,
@@ -75,8 +71,7 @@ pub fn span_of(area: &Rectangle, axis: Orientation) -> Span {
 
 /// The rectangle that the sequence of a member divides: that of its container, or the whole atlas.
 #[inline]
-#[must_use]
-pub fn frame(nodes: &[Node], size: Size, member: &Node) -> Rectangle {
+pub(crate) fn frame(nodes: &[Node], size: Size, member: &Node) -> Rectangle {
     if member.parent.number == NO_SLOT {
         Rectangle::from(size)
     } else {
@@ -86,8 +81,7 @@ pub fn frame(nodes: &[Node], size: Size, member: &Node) -> Rectangle {
 
 /// Whether a rectangle has sides above 0, and no corner below 0.
 #[inline]
-#[must_use]
-pub fn is_solid(area: &Rectangle) -> bool {
+pub(crate) fn is_solid(area: &Rectangle) -> bool {
     area.min.x >= 0 && area.min.y >= 0 && area.min.x < area.max.x && area.min.y < area.max.y
 }
 
@@ -167,8 +161,7 @@ fn is_filled<A: Allocator>(nodes: &[Node], order: &Order<A>, at: Link, member: &
 
 /// Whether all that a used slot says of its place agrees with its neighbours.
 #[inline]
-#[must_use]
-pub fn is_member<A: Allocator>(
+pub(crate) fn is_member<A: Allocator>(
     nodes: &[Node],
     order: &Order<A>,
     size: Size,

@@ -21,8 +21,7 @@ pub struct Order<A: Allocator> {
 impl<A: Allocator> Order<A> {
     /// The first member of the sequence that a slot holds, or of the top sequence.
     #[inline]
-    #[must_use]
-    pub fn first(&self, parent: Link) -> Link {
+    pub(crate) fn first(&self, parent: Link) -> Link {
         if parent.number == NO_SLOT {
             return self.top;
         }
@@ -34,8 +33,7 @@ impl<A: Allocator> Order<A> {
 
     /// The rank of a slot; past the end it is 0.
     #[inline]
-    #[must_use]
-    pub fn rank(&self, at: Link) -> u32 {
+    pub(crate) fn rank(&self, at: Link) -> u32 {
         match self.ranks.get(at.number as usize) {
             Some(rank) => *rank,
             None => 0,
@@ -129,7 +127,7 @@ impl<A: Allocator> Order<A> {
 
     /// The order of these nodes.
     #[inline]
-    pub fn of(alloc: A, nodes: &[Node]) -> Result<Order<A>, AllocError>
+    pub(crate) fn of(alloc: A, nodes: &[Node]) -> Result<Order<A>, AllocError>
     where
         A: Copy,
     {

@@ -26,8 +26,7 @@ fn is_calm(nodes: &[Node], member: &Node) -> bool {
 
 /// Whether a used slot is one of a normal tree, and aligned where it is granted.
 #[inline]
-#[must_use]
-pub fn is_settled(nodes: &[Node], options: &AllocatorOptions, member: &Node) -> bool {
+pub(crate) fn is_settled(nodes: &[Node], options: &AllocatorOptions, member: &Node) -> bool {
     match member.kind {
         NodeKind::Free => is_calm(nodes, member),
         NodeKind::Alloc => is_aligned(&member.area, options),

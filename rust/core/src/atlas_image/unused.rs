@@ -66,7 +66,11 @@ fn take_all(nodes: &[Node], marks: &mut [bool], first: Link) -> bool {
 
 /// Whether the list of unused slots that begins at `first` has each of them once, and no other slot.
 #[inline]
-pub fn are_lined<A: Allocator>(alloc: A, nodes: &[Node], first: Link) -> Result<bool, AllocError> {
+pub(crate) fn are_lined<A: Allocator>(
+    alloc: A,
+    nodes: &[Node],
+    first: Link,
+) -> Result<bool, AllocError> {
     let mut marks = marks_of(alloc, nodes)?;
     let lined = take_all(nodes, &mut marks, first);
     Ok(lined)

@@ -159,6 +159,20 @@ impl Best {
         !cell.is_beyond(self.size, self.reach)
     }
 
+    /// Whether no box of a size in this cell that begins at this corner or later is better than the best, since each leaves over as much as
+    /// that or more. It isn't said where the best has an equal side, nor of a large request.
+    #[inline(always)]
+    #[must_use]
+    pub fn ends_in(&self, cell: Cell, corner: u64) -> bool {
+        if corner < self.corner {
+            return false;
+        }
+        if self.reach == 0 {
+            return false;
+        }
+        cell.is_beyond(self.size, self.reach - 1)
+    }
+
     /// A size such that no box is better than the best that is both wider and higher; None as long as none is known, where the
     /// request is large and the best has no equal side, and where a side may pass what an `i32` can hold.
     #[inline]

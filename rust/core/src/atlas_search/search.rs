@@ -68,7 +68,12 @@ fn show_list<E: Entry>(entries: &[E], top: Link, best: &mut Best) {
     }
     let entry = &entries[top.number as usize];
     if show_entry(entry, top, best) {
-        let halves = Cell::around(exact_size(entry.rectangle())).halves();
+        let area = entry.rectangle();
+        let cell = Cell::around(exact_size(area));
+        if best.ends_in(cell, corner(area)) {
+            return;
+        }
+        let halves = cell.halves();
         show(entries, entry.left(), halves.low, best);
         show(entries, entry.right(), halves.high, best);
     }

@@ -2,7 +2,8 @@ use Rattle.std.proofs.Common.{map, ap, sym, ◌∙◌, subst, arith, rules}
 use Rattle.std.proofs.lemmas.List.{length-map}
 use Rattle.atlas_search.specs.Forks.{cell_of}
 use Rattle.atlas_search.specs.Rectangles.{IsSolid}
-use Rattle.atlas_search.proofs.SearchLemmas.HeapSearches.{heap-empty, heap-ended, heap-high, heap-low, heap-shown, list-alone, list-as_heap, list-read}
+use Rattle.atlas_search.proofs.SearchLemmas.HeapSearches.{heap-empty, heap-ended, heap-high, heap-low, heap-shown}
+use Rattle.atlas_search.proofs.SearchLemmas.HeapSearches.{list-alone, list-as_heap, list-read}
 use Rattle.atlas_search.proofs.SearchLemmas.HeapSearches.{list-solid}
 use Rattle.atlas_search.proofs.search.show_list.Goals as goal
 
@@ -34,15 +35,15 @@ show_entry-requires g c =
 pub halves-halves-requires : goal.halves-halves-requires
 halves-halves-requires g c =
     let s = list-as_heap g.E.Entry.item c.args.entries.now c.args.top.number c.requires.0 c.requires.1 c.if-top-entries.false
-    c.index-entries-top.result c.index-entries-top.is c.rectangle-area.result c.rectangle-area.ensures (search rules) (search rules) c.around-cell.result
-    (c.around-cell.ensures ∙ ap cell_of c.exact_size.ensures.sides) in
+    c.index-entries-top.result c.index-entries-top.is c.rectangle-area.result c.rectangle-area.ensures (search rules) (search rules)
+    c.around-cell.result (c.around-cell.ensures ∙ ap cell_of c.exact_size.ensures.sides) in
     s.is_cell
 
 pub show-requires : goal.show-requires
 show-requires g c =
     let s = list-as_heap g.E.Entry.item c.args.entries.now c.args.top.number c.requires.0 c.requires.1 c.if-top-entries.false
-    c.index-entries-top.result c.index-entries-top.is c.rectangle-area.result c.rectangle-area.ensures (search rules) (search rules) c.around-cell.result
-    (c.around-cell.ensures ∙ ap cell_of c.exact_size.ensures.sides) in (
+    c.index-entries-top.result c.index-entries-top.is c.rectangle-area.result c.rectangle-area.ensures (search rules) (search rules)
+    c.around-cell.result (c.around-cell.ensures ∙ ap cell_of c.exact_size.ensures.sides) in (
       _,
       heap-low g.E.Entry.item c.args.entries.now c.around-cell.result c.args.top.number c.requires.0 s c.if-top-entries.false
           c.index-entries-top.result c.index-entries-top.is (c.show_entry.ensures.fork c.if-show_entry.true).0
@@ -52,8 +53,8 @@ show-requires g c =
 pub show-requires-then-show_entry : goal.show-requires-then-show_entry
 show-requires-then-show_entry g c =
     let s = list-as_heap g.E.Entry.item c.args.entries.now c.args.top.number c.requires.0 c.requires.1 c.if-top-entries.false
-    c.index-entries-top.result c.index-entries-top.is c.rectangle-area.result c.rectangle-area.ensures (search rules) (search rules) c.around-cell.result
-    (c.around-cell.ensures ∙ ap cell_of c.exact_size.ensures.sides) in (
+    c.index-entries-top.result c.index-entries-top.is c.rectangle-area.result c.rectangle-area.ensures (search rules) (search rules)
+    c.around-cell.result (c.around-cell.ensures ∙ ap cell_of c.exact_size.ensures.sides) in (
       _,
       heap-high g.E.Entry.item c.args.entries.now c.around-cell.result c.args.top.number c.requires.0 s c.if-top-entries.false
           c.index-entries-top.result c.index-entries-top.is (c.show_entry.ensures.fork c.if-show_entry.true).0
@@ -71,22 +72,23 @@ returns-then-ends_in g c = λ h l.
     c.args.best.now c.show_entry.new.best
     ((c.show_entry.ensures.fork c.if-show_entry.true).1 (map g.E.Entry.item xs)
     (list-read g.E.Entry.item xs c.args.top.number h l c.if-top-entries.false x c.index-entries-top.is))
-    c.rectangle-area.result c.rectangle-area.ensures (search rules) c.corner.result c.corner.ensures.corner (c.ends_in.ensures c.if-ends_in.true)
+    c.rectangle-area.result c.rectangle-area.ensures (search rules) c.corner.result c.corner.ensures.corner
+    (c.ends_in.ensures c.if-ends_in.true)
 
 pub returns-else-ends_in : goal.returns-else-ends_in
 returns-else-ends_in g c = λ h l.
     let xs = c.args.entries.now in
     let x = c.index-entries-top.result in
     let s = list-as_heap g.E.Entry.item c.args.entries.now c.args.top.number h l c.if-top-entries.false
-    c.index-entries-top.result c.index-entries-top.is c.rectangle-area.result c.rectangle-area.ensures (search rules) (search rules) c.around-cell.result
-    (c.around-cell.ensures ∙ ap cell_of c.exact_size.ensures.sides) in
+    c.index-entries-top.result c.index-entries-top.is c.rectangle-area.result c.rectangle-area.ensures (search rules) (search rules)
+    c.around-cell.result (c.around-cell.ensures ∙ ap cell_of c.exact_size.ensures.sides) in
     let f = c.show_entry.ensures.fork c.if-show_entry.true in
     heap-shown g.E.Entry.item xs c.around-cell.result c.args.top.number h s c.if-top-entries.false x c.index-entries-top.is f.0
     c.args.best.now c.show_entry.new.best c.show.new.best c.show-then-show_entry.new.best
     (f.1 (map g.E.Entry.item xs)
     (list-read g.E.Entry.item xs c.args.top.number h l c.if-top-entries.false x c.index-entries-top.is))
-    (c.show.ensures _ (heap-low g.E.Entry.item xs c.around-cell.result c.args.top.number h s c.if-top-entries.false x c.index-entries-top.is f.0
-    c.left.result.number c.left.ensures c.halves-halves.result.low c.halves-halves.ensures.low))
+    (c.show.ensures _ (heap-low g.E.Entry.item xs c.around-cell.result c.args.top.number h s c.if-top-entries.false x
+    c.index-entries-top.is f.0 c.left.result.number c.left.ensures c.halves-halves.result.low c.halves-halves.ensures.low))
     (c.show-then-show_entry.ensures _ (heap-high g.E.Entry.item xs c.around-cell.result c.args.top.number h s c.if-top-entries.false x
     c.index-entries-top.is f.0
     c.right.result.number c.right.ensures c.halves-halves.result.high c.halves-halves.ensures.high))

@@ -45,7 +45,7 @@ fn middle(slab: Slab) -> i32 {
 
 // A slab of two columns or more, in two.
 #[inline]
-fn halves(slab: Slab) -> Halves {
+fn halve(slab: Slab) -> Halves {
     let middle = middle(slab);
     Halves {
         first: Slab {
@@ -68,6 +68,27 @@ fn whole(size: Size) -> Slab {
     }
 }
 
+// Whether a box begins above the end that it has to lie below: that of all boxes before it if it goes through, otherwise that of those
+// that go through.
+#[inline]
+fn is_above(area: &Rectangle, is_full: bool, all: i32, full: i32) -> bool {
+    if is_full {
+        area.min.y < all
+    } else {
+        area.min.y < full
+    }
+}
+
+// The end of some boxes and of one more, if that one counts.
+#[inline]
+fn end_with(end: i32, area: &Rectangle, counts: bool) -> i32 {
+    if counts && end < area.max.y {
+        area.max.y
+    } else {
+        end
+    }
+}
+
 // Whether of boxes in this order each that goes through a slab lies below all before it, and each of the others below those before it
 // that go through. It is so of disjoint boxes that come from the top down.
 #[inline]
@@ -76,16 +97,11 @@ fn are_stacked(boxes: &[Rectangle], slab: Slab) -> bool {
     let mut full = 0;
     for area in boxes {
         let is_full = is_full(area, slab);
-        let least = if is_full { all } else { full };
-        if area.min.y < least {
+        if is_above(area, is_full, all, full) {
             return false;
         }
-        if all < area.max.y {
-            all = area.max.y;
-        }
-        if is_full && full < area.max.y {
-            full = area.max.y;
-        }
+        all = end_with(all, area, true);
+        full = end_with(full, area, is_full);
     }
     true
 }
@@ -124,7 +140,7 @@ fn are_apart_in<A: Allocator + Copy>(
     if is_one(slab) {
         return Ok(true);
     }
-    let halves = halves(slab);
+    let halves = halve(slab);
     let left = parts(alloc, boxes, slab, halves.first)?;
     if !are_apart_in(alloc, &left, halves.first)? {
         return Ok(false);

@@ -11,5 +11,6 @@ returns c = λ yes is_large r shown more b cornered narrow seen within.
     let beyond = c.is_beyond.ensures yes in
     let reach = c.args.self.now.reached (omega (arith, beyond.0, c.well_formed)) in
     seen-later c.args.self.now is_large r shown more seen reach
-    (λ a na ca d has. first-then a b d.box (corner-first a b na narrow (omega (arith, ca, cornered, c.if-corner-self.false))) (within d has).1)
+    (λ a na ca d has.
+    first-then a b d.box (corner-first a b na narrow (omega (arith, ca, cornered, c.if-corner-self.false))) (within d has).1)
     (λ d has. let i = (within d has).0 in omega (arith, beyond.0, beyond.1, wide, tall, i.left, i.top))
