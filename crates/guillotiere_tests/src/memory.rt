@@ -30,14 +30,23 @@ fn freed_in_a_copy(atlas: &Atlas<'_>) -> Result<(), AtlasError> {
 fn used_simple(heap: &Refusing<Global>) -> Result<(), AtlasError> {
     let mut simple = SimpleAtlasAllocator::new(heap, size2(64, 64))?;
     let _corner = simple.allocate(size2(10, 10))?;
+    let image = simple.image()?;
+    let _again = SimpleAtlasAllocator::from_image(heap, &image)?;
     Ok(())
 }
 
-// An atlas is filled, listed, copied, freed and started again; all of it is dropped, and a simple one too.
+fn made_again(atlas: &Atlas<'_>, heap: &Refusing<Global>) -> Result<(), AtlasError> {
+    let image = atlas.image()?;
+    let _again = AtlasAllocator::from_image(heap, &image)?;
+    Ok(())
+}
+
+// An atlas is filled, listed, copied, freed, kept and made again, and started again; all of it is dropped, and a simple one too.
 fn used(heap: &Refusing<Global>) -> Result<(), AtlasError> {
     let mut atlas = filled(heap)?;
     let _free = atlas.free_rectangles()?;
     freed_in_a_copy(&atlas)?;
+    made_again(&atlas, heap)?;
     let _cleared = atlas.clear();
     let _granted = atlas.allocate(size2(256, 256))?;
     used_simple(heap)

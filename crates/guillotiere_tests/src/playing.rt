@@ -347,3 +347,37 @@ pub fn play_all(rt: &impl Abort, alloc: Global, rows: &[Row]) -> Result<(), Atla
     }
     Ok(())
 }
+
+// An atlas that is made again of its data.
+fn made_again<'a>(
+    rt: &impl Abort,
+    heap: &'a Refusing<Global>,
+    atlas: &Atlas<'a>,
+) -> Result<Atlas<'a>, AtlasError> {
+    let image = atlas.image()?;
+    let made = AtlasAllocator::from_image(heap, &image)?;
+    let again = made.expect(rt, "an atlas's data");
+    assert!(rt; look_at(&again) == look_at(atlas));
+    Ok(again)
+}
+
+fn play_again(
+    rt: &impl Abort,
+    alloc: Global,
+    heap: &Refusing<Global>,
+    row: &Row,
+) -> Result<(), AtlasError> {
+    let mut atlas = created(rt, heap, row)?;
+    make_all(rt, alloc, heap, &mut atlas, row.start)?;
+    let mut again = made_again(rt, heap, &atlas)?;
+    make_all(rt, alloc, heap, &mut again, row.calls)
+}
+
+/// Plays rows over atlases that were made again of their data after the calls that come first.
+pub fn play_all_again(rt: &impl Abort, alloc: Global, rows: &[Row]) -> Result<(), AtlasError> {
+    let heap = Refusing::new(alloc);
+    for row in rows {
+        play_again(rt, alloc, &heap, row)?;
+    }
+    Ok(())
+}
