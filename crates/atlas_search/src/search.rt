@@ -98,9 +98,9 @@ fn show<E: Entry>(entries: &[E], at: Link, cell: Cell, best: &mut Best)
     show(entries, entry.right(), halves.high, best);
 }
 
-// Shows a list that begins with this to a search.
+// Shows a list that begins with this to a search. Where it is of larger sizes alone, it may be enough to look at its first entry.
 #[inline(always)]
-fn show_list<E: Entry>(entries: &[E], top: Link, best: &mut Best)
+fn show_list<E: Entry>(entries: &[E], top: Link, is_larger: bool, best: &mut Best)
     requires { (h : Heap) × IsListShowable (map E.item entries.now) top.number h }
     ensures { (h : Heap) → IsListShowable (map E.item entries.now) top.number h
         → HasShown (map E.item entries.now) (members h) best.old best.new }
@@ -112,7 +112,7 @@ fn show_list<E: Entry>(entries: &[E], top: Link, best: &mut Best)
     if show_entry(entry, top, best) {
         let area = entry.rectangle();
         let cell = Cell::around(exact_size(area));
-        if best.ends_in(cell, corner(area)) {
+        if is_larger && best.ends_in(cell, corner(area)) {
             return;
         }
         let halves = cell.halves();
@@ -127,6 +127,7 @@ fn search_list<A: Allocator, E: Entry>(
     entries: &[E],
     table: &Table<A>,
     place: Place,
+    is_larger: bool,
     best: &mut Best,
 )
     requires grown { table.now.is_grown ≡ true }
@@ -137,7 +138,7 @@ fn search_list<A: Allocator, E: Entry>(
         → AreBelow end place.row place.column
         → HasAdded o (map E.item entries.now) end r (λ i j. (i ≡ place.row) × (j ≡ place.column)) best.old best.new }
 {
-    show_list(entries, table.stored_head(place), best);
+    show_list(entries, table.stored_head(place), is_larger, best);
 }
 
 // Shows lists of a row to a search.
@@ -147,6 +148,7 @@ fn search_row<A: Allocator, E: Entry>(
     table: &Table<A>,
     row: usize,
     columns: Mask,
+    is_larger: bool,
     best: &mut Best,
 )
     requires grown { table.now.is_grown ≡ true }
@@ -159,7 +161,7 @@ fn search_row<A: Allocator, E: Entry>(
 {
     let mut left = columns;
     while let Some(column) = left.take_first() {
-        search_list(entries, table, Place { row, column }, best);
+        search_list(entries, table, Place { row, column }, is_larger, best);
     }
 }
 
@@ -182,7 +184,7 @@ fn search_column<A: Allocator, E: Entry>(
 {
     let mut left = rows;
     while let Some(row) = left.take_first() {
-        search_list(entries, table, Place { row, column }, best);
+        search_list(entries, table, Place { row, column }, false, best);
     }
 }
 
@@ -203,13 +205,13 @@ fn rows_with<A: Allocator>(table: &Table<A>, first: usize, end: usize) -> Mask
 
 // Of the columns of a row those with a list that may hold a better box than the best.
 #[inline(always)]
-fn near(options: &Scale, row: usize, columns: Mask, best: &Best) -> Mask
+fn columns_near(options: &Scale, row: usize, columns: Mask, best: &Best) -> Mask
     ensures { AreNear (options_of options.now) row columns result best.now }
 {
-    let Some(far) = best.farthest() else {
+    let Some(size) = best.farthest() else {
         return columns;
     };
-    let place = options.place_for(far);
+    let place = options.place_for(size);
     if row <= place.row {
         return columns;
     }
@@ -238,19 +240,19 @@ fn search_rows<A: Allocator, E: Entry>(
     let mut left = rows;
     while let Some(row) = left.take_first() {
         let columns = table.row(row).from(first).below(end);
-        let near = near(options, row, columns, best);
-        search_row(entries, table, row, near, best);
+        let near = columns_near(options, row, columns, best);
+        search_row(entries, table, row, near, true, best);
     }
 }
 
 // A row or column that each list with a slot reaches, of those from a place on, where these are the columns of its row;
-// not less than the place's own, the greater of which is `far`.
+// not less than the place's own, the greater of which is given.
 #[inline(always)]
-fn least_from<A: Allocator>(table: &Table<A>, own: Place, far: usize, columns: Mask) -> usize
+fn least_from<A: Allocator>(table: &Table<A>, own: Place, greater: usize, columns: Mask) -> usize
     requires columns { table.now.is_grown ≡ true → (j : ℕ) → own.column ≤ j → j < BANDS
         → is_used_at table.now.heads (52 * own.row + j) ≡ true → IsMarked columns j }
     requires row { own.row < BANDS }
-    requires far { far ≡ max own.row own.column }
+    requires greater { greater ≡ max own.row own.column }
     ensures reached { table.now.is_grown ≡ true → (i j : ℕ) → i < BANDS → j < BANDS → own.row ≤ i → own.column ≤ j
         → is_used_at table.now.heads (52 * i + j) ≡ true → (result ≤ i) ⊎ (result ≤ j) }
     ensures row { own.row ≤ result }
@@ -258,7 +260,7 @@ fn least_from<A: Allocator>(table: &Table<A>, own: Place, far: usize, columns: M
     ensures few { table.now.is_grown ≡ false → ((j : ℕ) → has columns j ≡ false) → BANDS ≤ result }
 {
     let rows = table.used().from(own.row + 1);
-    columns.or(rows).first().max(far)
+    columns.or(rows).first().max(greater)
 }
 
 // Shows the free entries before a row and a column to a search that knows of none: those with an equal side first, which
@@ -287,7 +289,7 @@ fn search_before<A: Allocator, E: Entry>(
         → HasSearched (options_of options.now) (map E.item entries.now) end r best.new }
     ensures last { result ≡ true → AreNoneApart table.now.heads own }
 {
-    search_row(entries, table, own.row, columns.below(end), best);
+    search_row(entries, table, own.row, columns.below(end), false, best);
     search_column(entries, table, own.column, rows.below(end), best);
     if best.has_equal_side() {
         return false;
@@ -312,7 +314,7 @@ fn search_few<A: Allocator, E: Entry>(entries: &[E], table: &Table<A>, end: usiz
         let row = list / BANDS;
         let column = list % BANDS;
         if row.max(column) < end {
-            show_list(entries, table.head(Place { row, column }), best);
+            show_list(entries, table.head(Place { row, column }), false, best);
         }
     }
 }
@@ -338,9 +340,9 @@ fn pick_few<A: Allocator, E: Entry>(
     ensures standing { IfSome result (IsStanding (map E.item entries.now)) }
 {
     let own = options.place_for(size);
-    let far = own.row.max(own.column);
-    let is_large = far >= options.large();
-    let mut least = far;
+    let greater = own.row.max(own.column);
+    let is_large = greater >= options.large();
+    let mut least = greater;
     while least < BANDS {
         let end = options.end_after(least);
         let mut best = Best::new(size, is_large);
@@ -371,11 +373,11 @@ pub fn pick<A: Allocator, E: Entry>(
     ensures standing { IfSome result (IsStanding (map E.item entries.now)) }
 {
     let own = options.place_for(size);
-    let far = own.row.max(own.column);
-    let is_large = far >= options.large();
+    let greater = own.row.max(own.column);
+    let is_large = greater >= options.large();
     let mut columns = table.row(own.row).from(own.column);
     let mut rows = table.column(own.column).from(own.row + 1);
-    let mut least = least_from(table, own, far, columns);
+    let mut least = least_from(table, own, greater, columns);
     let mut best = Best::new(size, is_large);
     while least < BANDS {
         let end = options.end_after(least);

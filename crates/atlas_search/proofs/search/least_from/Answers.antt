@@ -9,7 +9,7 @@ returns-clause-reached g c grown i j hi hj past under full =
     let reached = least-reached c.args.table.now.heads c.args.own c.first.result c.args.columns c.used.result c.from-rows.result c.or.result
     (c.requires.columns grown) (c.used.ensures.each grown) c.from-rows.ensures c.or.ensures c.first.ensures.least i j hi hj past under
     full in
-    grind (arith, reached, c.max.ensures, c.requires.far)
+    grind (arith, reached, c.max.ensures, c.requires.greater)
 
 pub returns-clause-few : goal.returns-clause-few
 returns-clause-few g c few none =

@@ -8,8 +8,8 @@ use Rattle.atlas_search.proofs.search.pick_few.Goals as goal
 pub loop-least-init : goal.loop-least-init
 loop-least-init g c =
     fits-far (options_of c.args.options.now) c.args.table.now.heads (map g.E.Entry.item c.args.entries.now) (sides_of c.args.size)
-    c.requires.listed c.place_for-own.result c.place_for-own.ensures.row c.place_for-own.ensures.column c.max-far.result
-    c.max-far.ensures
+    c.requires.listed c.place_for-own.result c.place_for-own.ensures.row c.place_for-own.ensures.column c.max-greater.result
+    c.max-greater.ensures
 
 pub bounds-entries-at : goal.bounds-entries-at
 bounds-entries-at g c =
@@ -18,9 +18,9 @@ bounds-entries-at g c =
     let r = sides_of c.args.size in
     let is = c.in-Some.ensures.some in
     let own = c.place_for-own in
-    let searched = few-searched o es c.end_after-end.result r own.result.row own.result.column c.max-far.result c.large.result
+    let searched = few-searched o es c.end_after-end.result r own.result.row own.result.column c.max-greater.result c.large.result
     c.new-best.result c.search_few.new.best c.requires.listed.valid c.requires.positive own.ensures.row own.ensures.column
-    c.max-far.ensures c.large.ensures c.new-best.ensures (c.search_few.ensures o r c.requires.listed) in
+    c.max-greater.ensures c.large.ensures c.new-best.ensures (c.search_few.ensures o r c.requires.listed) in
     let best = best-found o es r c.end_after-end.result c.search_few.new.best c.in-Some.at _ searched is.0 is.1 refl in
     free-inside g.E.Entry.item c.args.entries.now c.in-Some.at.number best.standing.free
 
@@ -34,9 +34,9 @@ returns-in-Some-clause-picked g c =
     let r = sides_of c.args.size in
     let is = c.in-Some.ensures.some in
     let own = c.place_for-own in
-    let searched = few-searched o es c.end_after-end.result r own.result.row own.result.column c.max-far.result c.large.result
+    let searched = few-searched o es c.end_after-end.result r own.result.row own.result.column c.max-greater.result c.large.result
     c.new-best.result c.search_few.new.best c.requires.listed.valid c.requires.positive own.ensures.row own.ensures.column
-    c.max-far.ensures c.large.ensures c.new-best.ensures (c.search_few.ensures o r c.requires.listed) in
+    c.max-greater.ensures c.large.ensures c.new-best.ensures (c.search_few.ensures o r c.requires.listed) in
     let free = (best-found o es r c.end_after-end.result c.search_few.new.best c.in-Some.at _ searched is.0 is.1 refl).standing.free in
     let area = area-read g.E.Entry.item c.args.entries.now c.in-Some.at.number c.index-entries-at.result c.rectangle-rectangle.result free
     c.index-entries-at.is c.rectangle-rectangle.ensures in
@@ -52,9 +52,9 @@ returns-in-Some-clause-standing g c =
     let r = sides_of c.args.size in
     let is = c.in-Some.ensures.some in
     let own = c.place_for-own in
-    let searched = few-searched o es c.end_after-end.result r own.result.row own.result.column c.max-far.result c.large.result
+    let searched = few-searched o es c.end_after-end.result r own.result.row own.result.column c.max-greater.result c.large.result
     c.new-best.result c.search_few.new.best c.requires.listed.valid c.requires.positive own.ensures.row own.ensures.column
-    c.max-far.ensures c.large.ensures c.new-best.ensures (c.search_few.ensures o r c.requires.listed) in
+    c.max-greater.ensures c.large.ensures c.new-best.ensures (c.search_few.ensures o r c.requires.listed) in
     let free = (best-found o es r c.end_after-end.result c.search_few.new.best c.in-Some.at _ searched is.0 is.1 refl).standing.free in
     let area = area-read g.E.Entry.item c.args.entries.now c.in-Some.at.number c.index-entries-at.result c.rectangle-rectangle.result free
     c.index-entries-at.is c.rectangle-rectangle.ensures in
@@ -67,9 +67,9 @@ loop-least-preserved g c =
     let es = map g.E.Entry.item c.args.entries.now in
     let r = sides_of c.args.size in
     let own = c.place_for-own in
-    let searched = few-searched o es c.end_after-end.result r own.result.row own.result.column c.max-far.result c.large.result
+    let searched = few-searched o es c.end_after-end.result r own.result.row own.result.column c.max-greater.result c.large.result
     c.new-best.result c.search_few.new.best c.requires.listed.valid c.requires.positive own.ensures.row own.ensures.column
-    c.max-far.ensures c.large.ensures c.new-best.ensures (c.search_few.ensures o r c.requires.listed) in
+    c.max-greater.ensures c.large.ensures c.new-best.ensures (c.search_few.ensures o r c.requires.listed) in
     none-found o es r c.end_after-end.result c.search_few.new.best searched (c.found.ensures.none c.in_default.is)
 
 pub returns-clause-none : goal.returns-clause-none

@@ -33,13 +33,13 @@ loop-row-preserved g c =
           (marked-from c.row.result c.from.result c.args.first j c.from.ensures (grind (arith, c.row.ensures.used, used, before)) past)
           before)
           (l.invariant.1 r)
-          (added-row o c.args.table.now.heads es c.requires.listed c.args.end r k c.below-columns.result c.near-near.result l.best
-          c.near-near.ensures
+          (added-row o c.args.table.now.heads es c.requires.listed c.args.end r k c.below-columns.result c.columns_near-near.result l.best
+          c.columns_near-near.ensures
           (λ j h. (before, (below-marked c.from.result c.below-columns.result c.args.end j c.below-columns.ensures h).1))
           c.search_row.new.best
           (c.search_row.ensures o c.args.end r c.requires.listed (λ j h. (
             before,
-            (below-marked c.from.result c.below-columns.result c.args.end j c.below-columns.ensures (c.near-near.ensures.inside j h)).1,
+            (below-marked c.from.result c.below-columns.result c.args.end j c.below-columns.ensures (c.columns_near-near.ensures.inside j h)).1,
           )))),
     )
 

@@ -75,8 +75,8 @@ returns-then-ends_in g c = λ h l.
     c.rectangle-area.result c.rectangle-area.ensures (search rules) c.corner.result c.corner.ensures.corner
     (c.ends_in.ensures c.if-ends_in.true)
 
-pub returns-else-ends_in : goal.returns-else-ends_in
-returns-else-ends_in g c = λ h l.
+pub returns-else-is_larger : goal.returns-else-is_larger
+returns-else-is_larger g c = λ h l.
     let xs = c.args.entries.now in
     let x = c.index-entries-top.result in
     let s = list-as_heap g.E.Entry.item c.args.entries.now c.args.top.number h l c.if-top-entries.false

@@ -6,7 +6,7 @@ use Rattle.atlas_search.specs.Lookups.{AreNear}
 use Rattle.atlas_search.proofs.SearchLemmas.BandLaws.{band_mono}
 use Rattle.atlas_search.proofs.SearchLemmas.NearColumns.{all-near}
 use Rattle.atlas_search.proofs.SearchLemmas.SearchesBefore.{below-marked, marked-below}
-use Rattle.atlas_search.proofs.search.near.Goals as goal
+use Rattle.atlas_search.proofs.search.columns_near.Goals as goal
 
 pub returns-in_default : goal.returns-in_default
 returns-in_default c = all-near (options_of c.args.options.now) c.args.row c.args.columns c.args.best.now
