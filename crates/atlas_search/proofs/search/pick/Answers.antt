@@ -13,8 +13,8 @@ loop-least-init g c =
     let o = options_of c.args.options.now in
     let r = sides_of c.args.size in
     let own = c.place_for-own in
-    let large = large-law o r own.result.row own.result.column c.max-greater.result c.large.result c.requires.listed.valid c.requires.positive
-    own.ensures.row own.ensures.column
+    let large = large-law o r own.result.row own.result.column c.max-greater.result c.large.result c.requires.listed.valid
+    c.requires.positive own.ensures.row own.ensures.column
     c.max-greater.ensures c.large.ensures in (
       λ grown. record {
         listed = c.requires.listed;

@@ -39,7 +39,8 @@ loop-row-preserved g c =
           c.search_row.new.best
           (c.search_row.ensures o c.args.end r c.requires.listed (λ j h. (
             before,
-            (below-marked c.from.result c.below-columns.result c.args.end j c.below-columns.ensures (c.columns_near-near.ensures.inside j h)).1,
+            (below-marked c.from.result c.below-columns.result c.args.end j c.below-columns.ensures
+                (c.columns_near-near.ensures.inside j h)).1,
           )))),
     )
 
