@@ -39,6 +39,11 @@ mod rearranging;
 /// assert_eq!(atlas.try_grow(size2(32, 99)), Err(AtlasError::Shrinks));
 /// assert_eq!(atlas.size(), size2(64, 64));
 /// ```
+///
+/// With the feature `serialization` an atlas is written as a struct of `size`, `options` and `slots`. The slots are the limit, the unused
+/// slot that is taken next, and a list: what each slot is used for, a [`NodeKind`](crate::NodeKind); whether its sequence runs down; its
+/// generation; the slots that hold it, come before it and after it, 4294967295 for none, where after an unused slot comes the next unused
+/// one; and its rectangle, `(min.x, min.y, max.x, max.y)`. What is read is tested, and is an error unless it describes an atlas. Ids live on.
 pub struct AtlasAllocator {
     atlas: library::AtlasAllocator<Global>,
     shown: Shown,

@@ -104,7 +104,7 @@
 //! |---|---|
 //! | `std` (default) | `std::error::Error` for the errors; [`dump_svg`], [`dump_into_svg`] |
 //! | `cache`, `sheet`, `recording` (default) | the modules of these names |
-//! | `serialization`, `serde` | serde for [`AllocId`], [`AllocatorOptions`] and [`NodeKind`], for an allocator by its [`recording`], and for what euclid has |
+//! | `serialization`, `serde` | serde for both allocators, [`AllocId`], [`AllocatorOptions`] and [`NodeKind`], for an allocator by its [`recording`], and for what euclid has |
 //! | `libm` | euclid's feature of this name, which its versions before 0.22.14 need without `std` |
 //!
 //! Without `std` this crate and those below it use only `core` and `alloc`.

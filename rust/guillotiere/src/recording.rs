@@ -1,9 +1,9 @@
-//! Persistence: an allocator that records its calls, and recordings that can be kept and taken up again. Needs the feature `recording`,
-//! which is on by default.
+//! Persistence by calls: an allocator that records them, and recordings that can be kept and taken up again. Needs the feature
+//! `recording`, which is on by default.
 //!
-//! The ids of an [`AtlasAllocator`](crate::AtlasAllocator) depend on its slots, and when slots are read from a file no
-//! one can say whether calls led to them. So what is kept is the list of calls with their answers, a [`Recording`]:
-//! `resume` carries them out once more in a new allocator and compares each answer before the allocator is given out.
+//! With serde an [`AtlasAllocator`](crate::AtlasAllocator) is written as its slots, which is shorter once there were many calls. What is
+//! kept here is the list of calls with their answers, a [`Recording`]: `resume` carries them out once more in a new allocator and compares
+//! each answer before the allocator is given out, so that an allocator that is read is one to which those calls led.
 //!
 //! ```
 //! use guillotiere::recording::{RecordingAllocator, ResumeError};

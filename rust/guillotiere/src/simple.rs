@@ -21,6 +21,10 @@ use wollemigo_support::alloc::Global;
 /// assert!(simple.allocate(size2(100, 41)).is_none());
 /// assert!(simple.allocate(size2(100, 40)).is_some());
 /// ```
+///
+/// With the feature `serialization` an allocator is written as a struct of `size`, `options` and `free`, a list of its free rectangles as
+/// `(min.x, min.y, max.x, max.y)`, whose order has no meaning. What is read is tested, and is an error unless they lie within, apart from
+/// one another.
 pub struct SimpleAtlasAllocator {
     simple: library::SimpleAtlasAllocator<Global>,
 }
