@@ -172,7 +172,7 @@ fn turned(turn: u64) -> Size {
     size2(16 + turn as i32 % 16, 16)
 }
 
-/// The calls that pass all slots. A part's calls are the boxes, free or live, that it answers of or may.
+/// The calls that pass all slots. A part's calls are the boxes, free or live, that it answers of or may, or the slots.
 fn walks(live: u64, run: &mut Run) {
     const TIMES: u64 = 8;
     let (atlas, _) = filled(live, &mut Random::new(1));
@@ -188,6 +188,15 @@ fn walks(live: u64, run: &mut Run) {
     part("largest", free, &mut |_| drop(black_box(atlas.largest_free())));
     part("iter", live, &mut |_| drop(black_box(atlas.iter().map(black_box).count())));
     part("freeiter", free, &mut |_| drop(black_box(atlas.free_iter().map(black_box).count())));
+    let image = atlas.image().ok().expect("memory");
+    let slots = image.nodes.len() as u64;
+    part("image", slots, &mut |_| drop(black_box(atlas.image())));
+    part("fromimage", slots, &mut |_| drop(black_box(AtlasAllocator::from_image(Global, &image))));
+    let mut simple = SimpleAtlasAllocator::new(Global, size2(1, 1)).ok().expect("memory");
+    simple.init_from_allocator(&atlas).ok().expect("memory");
+    let boxes = simple.image().ok().expect("memory");
+    part("simpleimage", free, &mut |_| drop(black_box(simple.image())));
+    part("simplefromimage", free, &mut |_| drop(black_box(SimpleAtlasAllocator::from_image(Global, &boxes))));
 }
 
 pub fn play(genome: &Genome, run: &mut Run) {
