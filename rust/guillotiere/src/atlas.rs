@@ -274,7 +274,7 @@ impl AtlasAllocator {
     }
 
     /// Whether a request of this size has room: then `allocate` grants it, slots and memory aside; otherwise it
-    /// answers None. Takes one search, and no memory.
+    /// answers None. Takes a look at a few free rectangles, and a search where none of these has room; no memory.
     ///
     /// ```
     /// use guillotiere::{size2, AtlasAllocator};
