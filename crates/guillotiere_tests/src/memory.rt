@@ -35,7 +35,7 @@ fn used_simple(heap: &Refusing<Global>) -> Result<(), AtlasError> {
     Ok(())
 }
 
-fn made_again(atlas: &Atlas<'_>, heap: &Refusing<Global>) -> Result<(), AtlasError> {
+fn made_again<'a>(atlas: &Atlas<'a>, heap: &'a Refusing<Global>) -> Result<(), AtlasError> {
     let image = atlas.image()?;
     let _again = AtlasAllocator::from_image(heap, &image)?;
     Ok(())
