@@ -305,6 +305,8 @@ typedef struct Result_AllocFailed_Change Result_AllocFailed_Change;
 typedef struct atlas_search_Rest atlas_search_Rest;
 typedef struct ErrResidual_PagesError ErrResidual_PagesError;
 typedef struct ControlFlow_ErrResidual_PagesError ControlFlow_ErrResidual_PagesError;
+typedef struct tuple_u64_Result_Option_Allocation_AtlasError tuple_u64_Result_Option_Allocation_AtlasError;
+typedef struct Option_tuple_u64_Result_Option_Allocation_AtlasError Option_tuple_u64_Result_Option_Allocation_AtlasError;
 typedef struct ControlFlow_u32 ControlFlow_u32;
 typedef struct Option_u32 Option_u32;
 typedef struct RangeTo_u64 RangeTo_u64;
@@ -333,8 +335,8 @@ typedef struct atlas_search_Marks atlas_search_Marks;
 typedef struct tuple_Link_u32 tuple_Link_u32;
 typedef struct Option_Link Option_Link;
 typedef struct tuple_Link_Link tuple_Link_Link;
-typedef struct atlas_search_Best atlas_search_Best;
 typedef struct atlas_search_Place atlas_search_Place;
+typedef struct atlas_search_Best atlas_search_Best;
 typedef struct slice_Slot_2 slice_Slot_2;
 typedef struct slice_Link_2 slice_Link_2;
 typedef struct slice_AtlasAllocator_2 slice_AtlasAllocator_2;
@@ -2108,6 +2110,18 @@ struct ControlFlow_ErrResidual_PagesError {
     } Break;
 };
 
+struct tuple_u64_Result_Option_Allocation_AtlasError {
+    uint64_t field_0;
+    Result_Option_Allocation_AtlasError field_1;
+};
+
+struct Option_tuple_u64_Result_Option_Allocation_AtlasError {
+    uint8_t tag; /* 0 None, 1 Some */
+    struct {
+        tuple_u64_Result_Option_Allocation_AtlasError field_0;
+    } Some;
+};
+
 struct ControlFlow_u32 {
     uint8_t tag; /* 0 Continue, 1 Break */
     struct {
@@ -2285,6 +2299,12 @@ struct tuple_Link_Link {
     atlas_search_Link field_1;
 };
 
+/* atlas_search::bands::Place */
+struct atlas_search_Place {
+    uint64_t row;
+    uint64_t column;
+};
+
 /* atlas_search::best::Best */
 struct atlas_search_Best {
     atlas_model_Size size;
@@ -2294,12 +2314,6 @@ struct atlas_search_Best {
     uint64_t bar;
     uint32_t reach;
     atlas_search_Link at;
-};
-
-/* atlas_search::bands::Place */
-struct atlas_search_Place {
-    uint64_t row;
-    uint64_t column;
 };
 
 struct slice_Slot_2 {
@@ -6074,9 +6088,39 @@ MAKER Result_PagedAtlas_PagesError new_Result_PagedAtlas_PagesError_Err(atlas_pa
     return it;
 }
 
-MAKER Option_PageAllocation new_Option_PageAllocation_None(void) {
-    Option_PageAllocation it;
+MAKER tuple_u64_Result_Option_Allocation_AtlasError new_tuple_u64_Result_Option_Allocation_AtlasError(uint64_t field_0,
+        Result_Option_Allocation_AtlasError field_1) {
+    tuple_u64_Result_Option_Allocation_AtlasError it;
+    it.field_0 = field_0;
+    it.field_1 = field_1;
+    return it;
+}
+
+MAKER Option_tuple_u64_Result_Option_Allocation_AtlasError new_Option_tuple_u64_Result_Option_Allocation_AtlasError_Some(tuple_u64_Result_Option_Allocation_AtlasError field_0) {
+    Option_tuple_u64_Result_Option_Allocation_AtlasError it;
+    it.tag = 1u;
+    it.Some.field_0 = field_0;
+    return it;
+}
+
+MAKER Option_tuple_u64_Result_Option_Allocation_AtlasError new_Option_tuple_u64_Result_Option_Allocation_AtlasError_None(void) {
+    Option_tuple_u64_Result_Option_Allocation_AtlasError it;
     it.tag = 0u;
+    return it;
+}
+
+MAKER atlas_pages_PageAllocation new_atlas_pages_PageAllocation(uint32_t page, atlas_model_AllocId id, atlas_model_Rectangle rectangle) {
+    atlas_pages_PageAllocation it;
+    it.page = page;
+    it.id = id;
+    it.rectangle = rectangle;
+    return it;
+}
+
+MAKER Option_PageAllocation new_Option_PageAllocation_Some(atlas_pages_PageAllocation field_0) {
+    Option_PageAllocation it;
+    it.tag = 1u;
+    it.Some.field_0 = field_0;
     return it;
 }
 
@@ -6084,6 +6128,19 @@ MAKER Result_Option_PageAllocation_AtlasError new_Result_Option_PageAllocation_A
     Result_Option_PageAllocation_AtlasError it;
     it.tag = 0u;
     it.is.Ok.field_0 = field_0;
+    return it;
+}
+
+MAKER Option_PageAllocation new_Option_PageAllocation_None(void) {
+    Option_PageAllocation it;
+    it.tag = 0u;
+    return it;
+}
+
+MAKER Result_Option_PageAllocation_AtlasError new_Result_Option_PageAllocation_AtlasError_Err(atlas_model_AtlasError field_0) {
+    Result_Option_PageAllocation_AtlasError it;
+    it.tag = 1u;
+    it.is.Err.field_0 = field_0;
     return it;
 }
 
@@ -6476,28 +6533,6 @@ MAKER guillotiere_FreeBox new_guillotiere_FreeBox(atlas_model_Rectangle area, at
     it.left = left;
     it.right = right;
     it.is_fork = is_fork;
-    return it;
-}
-
-MAKER atlas_pages_PageAllocation new_atlas_pages_PageAllocation(uint32_t page, atlas_model_AllocId id, atlas_model_Rectangle rectangle) {
-    atlas_pages_PageAllocation it;
-    it.page = page;
-    it.id = id;
-    it.rectangle = rectangle;
-    return it;
-}
-
-MAKER Option_PageAllocation new_Option_PageAllocation_Some(atlas_pages_PageAllocation field_0) {
-    Option_PageAllocation it;
-    it.tag = 1u;
-    it.Some.field_0 = field_0;
-    return it;
-}
-
-MAKER Result_Option_PageAllocation_AtlasError new_Result_Option_PageAllocation_AtlasError_Err(atlas_model_AtlasError field_0) {
-    Result_Option_PageAllocation_AtlasError it;
-    it.tag = 1u;
-    it.is.Err.field_0 = field_0;
     return it;
 }
 
@@ -9880,7 +9915,7 @@ SMALL const atlas_allocator_AtlasAllocator *std_alloc_boxed_methods_BoxDeref_der
 SMALL atlas_model_Size atlas_allocator_atlas_AtlasAllocator_size(const atlas_allocator_AtlasAllocator *self);
 PART Result_AtlasError atlas_allocator_atlas_AtlasAllocator_grow(atlas_allocator_AtlasAllocator *self, atlas_model_Size new_size);
 SMALL bool atlas_allocator_atlas_AtlasAllocator_can_grow_to(const atlas_allocator_AtlasAllocator *self, atlas_model_Size new_size);
-PART bool atlas_allocator_atlas_AtlasAllocator_can_fit(const atlas_allocator_AtlasAllocator *self, atlas_model_Size requested_size);
+SMALL bool atlas_allocator_atlas_AtlasAllocator_can_fit(const atlas_allocator_AtlasAllocator *self, atlas_model_Size requested_size);
 SMALL Result_AtlasError atlas_allocator_atlas_AtlasAllocator_reserve(atlas_allocator_AtlasAllocator *self, uint32_t additional);
 SMALL Result_AtlasError atlas_allocator_atlas_AtlasAllocator_clear(atlas_allocator_AtlasAllocator *self);
 SMALL bool atlas_model_options_AllocatorOptions_is_valid(const atlas_model_AllocatorOptions *self);
@@ -10084,7 +10119,8 @@ SMALL ControlFlow_ErrResidual_AtlasError core_result_ResultTry_branch_AtlasError
 SMALL Result_AtlasError core_result_ResultFromResidualErrResidual_from_residual_AtlasError_AtlasError(ErrResidual_AtlasError residual);
 SMALL atlas_search_Link atlas_tree_growth_grow_tree(atlas_store_Store *store, atlas_search_Link first, atlas_tree_Growth growth);
 SMALL Option_Size atlas_store_store_Store_rounded(const atlas_store_Store *self, atlas_model_Size size);
-SMALL Option_Found atlas_store_store_Store_choose(const atlas_store_Store *self, atlas_model_Size size);
+SMALL bool atlas_store_store_Store_fits_at_once(const atlas_store_Store *self, atlas_model_Size size);
+PART Option_Found atlas_store_store_Store_choose(const atlas_store_Store *self, atlas_model_Size size);
 SMALL bool core_option_Option_is_some_Found(const Option_Found *self);
 SMALL atlas_model_AllocatorOptions atlas_store_store_Store_options(const atlas_store_Store *self);
 SMALL void atlas_allocator_atlas_AtlasAllocator_restart(atlas_allocator_AtlasAllocator *self, atlas_model_Size whole,
@@ -10349,6 +10385,8 @@ SMALL void atlas_tree_growth_lengthen(atlas_store_Store *store, atlas_search_Lin
 SMALL atlas_search_Link atlas_tree_growth_widen(atlas_store_Store *store, atlas_search_Link first, atlas_model_Size inner,
         atlas_model_Size size);
 SMALL Option_Size atlas_search_choice_rounded(atlas_model_Size size, const atlas_search_Scale *options);
+SMALL bool atlas_search_glance_fits_at_once_Slot(slice_Slot entries, const atlas_search_Table *table, const atlas_search_Scale *options,
+        atlas_model_Size size);
 SMALL Option_Found atlas_search_search_pick_Slot(slice_Slot entries, const atlas_search_Table *table, const atlas_search_Scale *options,
         atlas_model_Size size);
 SMALL void atlas_store_store_Store_start(atlas_store_Store *self, atlas_model_Size size, const atlas_model_AllocatorOptions *options);
@@ -10438,9 +10476,9 @@ SMALL Result_PagedAtlas_PagesError core_result_ResultFromResidualErrResidual_fro
 SMALL Result_Vacant_AtlasAllocator std_alloc_room_vacant_Vacant_take_PagedAtlas(void);
 SMALL Box_AtlasAllocator std_alloc_boxed_Box_write_into_PagedAtlas(Vacant_AtlasAllocator room, atlas_pages_PagedAtlas x);
 SMALL void guillotiere_c_atlas_pages_paged_PagedAtlas_Destruct_drop(atlas_pages_PagedAtlas given_1);
-SMALL Option_u64 guillotiere_pages_page_with_room(slice_AtlasAllocator pages, atlas_model_Size size);
-SMALL Result_Option_PageAllocation_AtlasError atlas_pages_paged_PagedAtlas_allocate_there(atlas_pages_PagedAtlas *self, uint64_t page,
-        atlas_model_Size size);
+SMALL Option_tuple_u64_Result_Option_Allocation_AtlasError atlas_pages_paged_steps_grant_first(Vec_Slot *pages, atlas_model_Size size);
+SMALL Result_Option_PageAllocation_AtlasError atlas_pages_paged_at_page(uint64_t page, uint32_t most,
+        Result_Option_Allocation_AtlasError answer);
 SMALL Result_Option_PageAllocation_AtlasError atlas_pages_paged_PagedAtlas_allocate_anew(atlas_pages_PagedAtlas *self,
         atlas_model_Size size);
 SMALL const atlas_pages_PagedAtlas *std_alloc_boxed_Box_as_ref_PagedAtlas(const Box_AtlasAllocator *self);
@@ -10609,23 +10647,26 @@ SMALL atlas_search_Link atlas_store_store_Store_append(atlas_store_Store *self, 
 SMALL tuple_Link_Link atlas_store_store_Store_nest(atlas_store_Store *self, atlas_search_Link first, atlas_model_Size inner,
         atlas_model_Size size);
 SMALL Option_u32 atlas_search_choice_rounded_side(uint32_t side, uint32_t alignment);
+SMALL bool atlas_search_table_Table_is_grown(const atlas_search_Table *self);
 SMALL atlas_search_Place atlas_search_bands_Scale_place_for(const atlas_search_Scale *self, atlas_model_Size size);
+SMALL bool atlas_search_glance_has_beyond(const atlas_search_Table *table, atlas_search_Place own);
+SMALL atlas_search_Link atlas_search_table_Table_stored_head(const atlas_search_Table *self, atlas_search_Place at);
+SMALL atlas_model_Rectangle atlas_store_slots_entry_SlotEntry_rectangle(const atlas_store_Slot *self);
+SMALL uint32_t atlas_search_choice_margin_in(atlas_model_Rectangle rectangle, atlas_model_Size size);
 SMALL uint64_t core_int_usize_max(uint64_t given_1, uint64_t given_2);
 SMALL uint64_t atlas_search_bands_Scale_large(const atlas_search_Scale *self);
 SMALL atlas_search_Mask atlas_search_table_Table_row(const atlas_search_Table *self, uint64_t i);
 SMALL atlas_search_Mask atlas_search_masks_Mask_from(atlas_search_Mask self, uint64_t k);
 SMALL atlas_search_Mask atlas_search_table_Table_column(const atlas_search_Table *self, uint64_t j);
-SMALL uint64_t atlas_search_search_least_from(const atlas_search_Table *table, atlas_search_Place own, uint64_t far_,
+SMALL uint64_t atlas_search_search_least_from(const atlas_search_Table *table, atlas_search_Place own, uint64_t greater,
         atlas_search_Mask columns);
 SMALL atlas_search_Best atlas_search_best_Best_new(atlas_model_Size size, bool is_large);
 SMALL uint64_t atlas_search_bands_Scale_end_after(const atlas_search_Scale *self, uint64_t first);
 SMALL bool atlas_search_search_search_before_Slot(slice_Slot entries, const atlas_search_Table *table, const atlas_search_Scale *options,
         atlas_search_Place own, atlas_search_Mask columns, atlas_search_Mask rows, uint64_t end, atlas_search_Best *best);
 SMALL Option_Link atlas_search_best_Best_found(const atlas_search_Best *self);
-SMALL atlas_model_Rectangle atlas_store_slots_entry_SlotEntry_rectangle(const atlas_store_Slot *self);
 SMALL atlas_search_Mask atlas_search_masks_Mask_or(atlas_search_Mask self, atlas_search_Mask other);
 SMALL bool atlas_search_masks_Mask_is_empty(atlas_search_Mask self);
-SMALL bool atlas_search_table_Table_is_grown(const atlas_search_Table *self);
 COLD Option_Found atlas_search_search_pick_few_Slot(slice_Slot entries, const atlas_search_Table *table, const atlas_search_Scale *options,
         atlas_model_Size size);
 SMALL atlas_store_Slot atlas_store_store_start_whole_slot(atlas_model_Size size);
@@ -10700,10 +10741,8 @@ SMALL void std_alloc_vec_Vec_truncate_Marks_3(Vec_Slot *self, uint64_t n);
 SMALL bool atlas_model_geometry_PointPartialEq_eq(const atlas_model_Point *given_1, const atlas_model_Point *given_2);
 SMALL bool core_cmp_Ordering_and_eq_Point(bool found, const atlas_model_Point *a, const atlas_model_Point *b);
 SMALL atlas_pages_PagesError core_convert_AnyFrom_from_PagesError(atlas_pages_PagesError given_1);
-SMALL bool guillotiere_pages_has_room(const atlas_allocator_AtlasAllocator *page, atlas_model_Size size);
 SMALL Result_Option_Allocation_AtlasError atlas_pages_paged_steps_grant_at(Vec_Slot *pages, uint64_t page, atlas_model_Size size);
-SMALL Result_Option_PageAllocation_AtlasError atlas_pages_paged_at_page(uint64_t page, uint32_t most,
-        Result_Option_Allocation_AtlasError answer);
+SMALL bool atlas_pages_paged_steps_is_nothing(const Result_Option_Allocation_AtlasError *answer);
 SMALL Result_Option_Allocation_AtlasError atlas_pages_paged_steps_add_page(Vec_Slot *pages, atlas_model_Size page_size,
         const atlas_model_AllocatorOptions *options, atlas_model_Size size);
 SMALL slice_AtlasAllocator_2 std_alloc_vec_lends_VecDerefSliceMut_deref_mut_AtlasAllocator(Vec_Slot *self);
@@ -10936,14 +10975,17 @@ SMALL void atlas_store_slots_extending_nest_top(slice_Slot_2 slots, atlas_search
         atlas_search_Link strip, atlas_model_Size inner, atlas_model_Size size);
 SMALL uint64_t atlas_search_bands_usual_band(uint32_t side);
 SMALL uint64_t atlas_search_bands_band(uint32_t side, const atlas_model_AllocatorOptions *options);
+SMALL atlas_search_Mask atlas_search_table_Table_used(const atlas_search_Table *self);
+SMALL Option_u64 atlas_search_masks_Mask_take_first(atlas_search_Mask *self);
+SMALL uint64_t atlas_search_masks_Mask_first(atlas_search_Mask self);
+SMALL const atlas_search_Link *std_alloc_vec_derefs_VecIndexUsize_index_Link(const Vec_Slot *self, uint64_t index);
+SMALL uint32_t atlas_search_choice_spare(uint32_t from, uint32_t to, uint32_t side);
 SMALL atlas_search_Mask atlas_search_masks_Mask_none(void);
 SMALL atlas_search_Mask atlas_search_marks_Marks_row(const atlas_search_Marks *self, uint64_t i);
 SMALL atlas_search_Mask atlas_search_marks_Marks_column(const atlas_search_Marks *self, uint64_t j);
-SMALL atlas_search_Mask atlas_search_table_Table_used(const atlas_search_Table *self);
-SMALL uint64_t atlas_search_masks_Mask_first(atlas_search_Mask self);
 SMALL atlas_search_Mask atlas_search_masks_Mask_below(atlas_search_Mask self, uint64_t k);
 SMALL void atlas_search_search_search_row_Slot(slice_Slot entries, const atlas_search_Table *table, uint64_t row,
-        atlas_search_Mask columns, atlas_search_Best *best);
+        atlas_search_Mask columns, bool is_larger, atlas_search_Best *best);
 SMALL void atlas_search_search_search_column_Slot(slice_Slot entries, const atlas_search_Table *table, uint64_t column,
         atlas_search_Mask rows, atlas_search_Best *best);
 SMALL bool atlas_search_best_Best_has_equal_side(const atlas_search_Best *self);
@@ -10994,7 +11036,6 @@ SMALL bool core_cmp_Ordering_and_eq_Size(bool found, const atlas_model_Size *a, 
 SMALL void std_alloc_vec_Vec_truncate_within_FreeBox_2(Vec_Slot *self, uint64_t n);
 SMALL slice_Marks std_alloc_vec_Vec_as_slice_Marks(const Vec_Slot *self);
 SMALL atlas_search_Mask atlas_search_marks_Marks_used(const atlas_search_Marks *self);
-SMALL Option_u64 atlas_search_masks_Mask_take_first(atlas_search_Mask *self);
 SMALL void atlas_search_table_blank_row(slice_Link_2 heads, uint64_t row, atlas_search_Mask columns);
 SMALL guillotiere_FreeBox guillotiere_simple_boxes_FreeBox_unused_box(atlas_search_Link next);
 SMALL void std_alloc_vec_Vec_push_reserved_FreeBox(Vec_Slot *self, guillotiere_FreeBox value);
@@ -11302,11 +11343,11 @@ SMALL uint32_t core_int_u32_min(uint32_t given_1, uint32_t given_2);
 SMALL uint64_t atlas_search_bands_step(uint32_t side);
 SMALL uint64_t atlas_search_bands_passed(uint32_t side, uint32_t threshold);
 SMALL void atlas_search_search_search_list_Slot(slice_Slot entries, const atlas_search_Table *table, atlas_search_Place place,
-        atlas_search_Best *best);
-SMALL atlas_search_Mask atlas_search_search_near(const atlas_search_Scale *options, uint64_t row, atlas_search_Mask columns,
+        bool is_larger, atlas_search_Best *best);
+SMALL atlas_search_Mask atlas_search_search_columns_near(const atlas_search_Scale *options, uint64_t row, atlas_search_Mask columns,
         const atlas_search_Best *best);
 SMALL uint64_t atlas_search_table_Table_list_of_few(const atlas_search_Table *self, uint64_t i);
-SMALL void atlas_search_search_show_list_Slot(slice_Slot entries, atlas_search_Link top, atlas_search_Best *best);
+SMALL void atlas_search_search_show_list_Slot(slice_Slot entries, atlas_search_Link top, bool is_larger, atlas_search_Best *best);
 SMALL uint64_t std_alloc_vec_least_capacity_Allocation(void);
 SMALL bool std_alloc_vec_Vec_move_to_Allocation(Vec_Slot *self, uint64_t cap);
 SMALL void std_alloc_vec_Vec_truncate_within_Allocation_3(Vec_Slot *self, uint64_t n);
@@ -11331,7 +11372,7 @@ SMALL atlas_model_AllocId core_slots_Slots_take_AllocId(Slots_CacheChange_u64 *s
 SMALL void core_mem_drop_AllocId(atlas_model_AllocId x);
 SMALL void std_alloc_vec_opened_drop_run_FreeBox(Slots_CacheChange_u64 *row, uint64_t from, uint64_t to);
 SMALL void atlas_search_search_search_row_FreeBox(slice_FreeBox entries, const atlas_search_Table *table, uint64_t row,
-        atlas_search_Mask columns, atlas_search_Best *best);
+        atlas_search_Mask columns, bool is_larger, atlas_search_Best *best);
 SMALL void atlas_search_search_search_column_FreeBox(slice_FreeBox entries, const atlas_search_Table *table, uint64_t column,
         atlas_search_Mask rows, atlas_search_Best *best);
 SMALL void atlas_search_search_search_rows_FreeBox(slice_FreeBox entries, const atlas_search_Table *table,
@@ -11657,9 +11698,10 @@ PART atlas_search_Link atlas_search_heap_sort_in_Slot(slice_Slot_2 entries, atla
         atlas_search_Link top, atlas_search_Link at);
 SMALL atlas_store_Slot atlas_store_slots_lists_fresh_slot(void);
 SMALL void atlas_store_slots_lists_renew(slice_Slot_2 slots, atlas_search_Link at);
-SMALL atlas_search_Link atlas_search_table_Table_stored_head(const atlas_search_Table *self, atlas_search_Place at);
 SMALL Option_Size atlas_search_best_Best_farthest(const atlas_search_Best *self);
 SMALL bool atlas_search_search_show_entry_Slot(const atlas_store_Slot *entry, atlas_search_Link at, atlas_search_Best *best);
+SMALL uint64_t atlas_search_best_corner(atlas_model_Rectangle rectangle);
+SMALL bool atlas_search_best_Best_ends_in(const atlas_search_Best *self, atlas_search_Cell cell, uint64_t corner);
 SMALL atlas_search_Halves atlas_search_cells_Cell_halves(atlas_search_Cell self);
 SMALL atlas_search_Link atlas_store_slots_entry_SlotEntry_left(const atlas_store_Slot *self);
 PART void atlas_search_search_show_Slot(slice_Slot entries, atlas_search_Link at, atlas_search_Cell cell, atlas_search_Best *best);
@@ -11689,12 +11731,11 @@ SMALL void guillotiere_c_Destruct_none_drop_AllocId(atlas_model_AllocId given_1)
 SMALL guillotiere_FreeBox core_slots_Slots_take_FreeBox(Slots_CacheChange_u64 *self, uint64_t i);
 SMALL void core_mem_drop_FreeBox(guillotiere_FreeBox x);
 SMALL void atlas_search_search_search_list_FreeBox(slice_FreeBox entries, const atlas_search_Table *table, atlas_search_Place place,
-        atlas_search_Best *best);
-SMALL void atlas_search_search_show_list_FreeBox(slice_FreeBox entries, atlas_search_Link top, atlas_search_Best *best);
+        bool is_larger, atlas_search_Best *best);
+SMALL void atlas_search_search_show_list_FreeBox(slice_FreeBox entries, atlas_search_Link top, bool is_larger, atlas_search_Best *best);
 SMALL atlas_search_Link atlas_search_heap_remove_FreeBox(slice_FreeBox_2 entries, atlas_search_Link at);
 SMALL uint64_t std_alloc_vec_least_capacity_FreeBox(void);
 SMALL void core_mem_drop_FreeBox_2(guillotiere_FreeBox x);
-SMALL const atlas_search_Link *std_alloc_vec_derefs_VecIndexUsize_index_Link(const Vec_Slot *self, uint64_t index);
 COLD atlas_search_Link atlas_search_table_head_in(const array_u16_8 *only, uint64_t number);
 SMALL bool atlas_search_heap_is_alike_FreeBox(slice_FreeBox entries, atlas_search_Link top, atlas_search_Link at);
 SMALL uint64_t atlas_search_heap_corner_at_FreeBox(slice_FreeBox entries, atlas_search_Link at);
@@ -11995,10 +12036,10 @@ SMALL atlas_search_Link atlas_search_heap_meld_Slot(slice_Slot_2 entries, atlas_
 SMALL void atlas_search_heap_make_fork_Slot(slice_Slot_2 entries, atlas_search_Cell cell, atlas_search_Link top);
 SMALL atlas_search_Pair atlas_search_heap_in_order_Slot(slice_Slot entries, atlas_search_Link one, atlas_search_Link other);
 SMALL uint32_t atlas_search_best_longer(uint32_t side, uint32_t more);
-SMALL uint64_t atlas_search_best_corner(atlas_model_Rectangle rectangle);
 SMALL bool atlas_search_best_Best_passes(const atlas_search_Best *self, uint64_t corner);
 SMALL void atlas_search_best_Best_look(atlas_search_Best *self, atlas_model_Rectangle rectangle, uint64_t corner, atlas_search_Link at);
 SMALL bool atlas_store_slots_entry_SlotEntry_is_fork(const atlas_store_Slot *self);
+SMALL bool atlas_search_cells_Cell_is_beyond(atlas_search_Cell self, atlas_model_Size size, uint32_t more);
 SMALL bool atlas_search_cells_Cell_is_cut_wide(atlas_search_Cell self);
 SMALL uint32_t atlas_search_cells_middle(uint32_t first, uint32_t end);
 SMALL bool atlas_search_best_Best_may_be_in(const atlas_search_Best *self, atlas_search_Cell cell);
@@ -12303,7 +12344,6 @@ SMALL void atlas_search_marks_Marks_unmark(atlas_search_Marks *self, atlas_searc
 SMALL void atlas_search_heap_hang_Slot(slice_Slot_2 entries, atlas_search_Link top, atlas_search_Link part);
 SMALL Option_u32 atlas_search_best_Best_rank_ahead(const atlas_search_Best *self, atlas_model_Rectangle rectangle, uint64_t corner);
 SMALL uint32_t atlas_search_best_reach_of(bool is_large, uint32_t rank);
-SMALL bool atlas_search_cells_Cell_is_beyond(atlas_search_Cell self, atlas_model_Size size, uint32_t more);
 SMALL void core_slots_lends_with_slots_Allocation_u64(slice_Allocation_2 given_1, void *given_2, uint64_t given_3);
 SMALL bool core_slice_sort_order_ByKeyOrder_less_Allocation_Reverse_tuple_u64_u32(void *given_1, const atlas_model_Allocation *given_2,
         const atlas_model_Allocation *given_3);
@@ -12545,7 +12585,6 @@ SMALL void std_alloc_Destruct_none_drop_Link(atlas_search_Link given_1);
 SMALL atlas_search_Mask atlas_search_masks_Mask_without(atlas_search_Mask self, uint64_t k);
 SMALL void atlas_search_heap_hang_left_Slot(slice_Slot_2 entries, atlas_search_Link above, atlas_search_Link less);
 SMALL void atlas_search_heap_swap_below_Slot(slice_Slot_2 entries, atlas_search_Link above);
-SMALL uint32_t atlas_search_choice_margin_in(atlas_model_Rectangle rectangle, atlas_model_Size size);
 SMALL uint32_t atlas_search_best_rank(bool is_large, uint32_t margin);
 SMALL bool atlas_search_best_Best_is_beaten_by(const atlas_search_Best *self, uint32_t rank, uint64_t corner);
 SMALL tuple_Slots_CacheChange_u64 core_core_slice_sort_small_insert_each_FnOnce_call_once_Allocation(Slots_CacheChange_u64 given_2,
@@ -12745,7 +12784,6 @@ SMALL ControlFlow_ref_tuple_u64_Size core_option_OptionTry_branch_ref_tuple_u64_
 SMALL uint64_t atlas_sheet_sheets_fn_numbers_of_map_FnMut_call_mut(void *given_1, const tuple_u64_Size *given_2);
 SMALL Result_ptr std_heap_GlobalAllocator_grow_Option_Placed(const void *self, void *ptr, uint64_t len, uint64_t _old_cap,
         uint64_t new_cap);
-SMALL uint32_t atlas_search_choice_spare(uint32_t from, uint32_t to, uint32_t side);
 SMALL tuple_Slots_CacheChange_u64 core_slice_sort_small_insert_each_Allocation(Slots_CacheChange_u64 row, uint64_t from);
 SMALL Reverse_tuple_u64_u32 atlas_allocator_atlas_rearranging_fn_sort_for_refit_sort_unstable_by_key(void *given_1,
         const atlas_model_Allocation *given_2);
@@ -16151,17 +16189,25 @@ SMALL bool atlas_allocator_atlas_AtlasAllocator_can_grow_to(const atlas_allocato
 }
 
 /* Whether a request has room: its size isn't empty and, rounded up, fits a free rectangle. Then `allocate` grants
- * it, slots and memory aside; else it answers None. Takes one search, and no memory.
+ * it, slots and memory aside; else it answers None. Takes a look at the first box of a few lists, and a search only where that
+ * doesn't show room; no memory.
  * crates/atlas_allocator/src/atlas/queries.rt
  */
-PART bool atlas_allocator_atlas_AtlasAllocator_can_fit(const atlas_allocator_AtlasAllocator *self, atlas_model_Size requested_size) {
+SMALL bool atlas_allocator_atlas_AtlasAllocator_can_fit(const atlas_allocator_AtlasAllocator *self, atlas_model_Size requested_size) {
+    atlas_model_Size size_3;
     Option_Size option_4;
     bool is_6;
-    Option_Found option_9;
+    bool is_7;
+    Option_Found option_11;
     option_4 = atlas_store_store_Store_rounded(&self->store, requested_size);
     if (option_4.tag == 1u /* Some */) {
-        option_9 = atlas_store_store_Store_choose(&self->store, option_4.Some.field_0);
-        is_6 = core_option_Option_is_some_Found(&option_9);
+        size_3 = option_4.Some.field_0;
+        is_7 = atlas_store_store_Store_fits_at_once(&self->store, size_3);
+        if (!is_7) {
+            option_11 = atlas_store_store_Store_choose(&self->store, size_3);
+            is_7 = core_option_Option_is_some_Found(&option_11);
+        }
+        is_6 = is_7;
     } else {
         is_6 = false;
     }
@@ -18872,10 +18918,20 @@ SMALL Option_Size atlas_store_store_Store_rounded(const atlas_store_Store *self,
     return atlas_search_choice_rounded(size, &self->options);
 }
 
+/* Whether a request of this rounded size fits the first box of its own list, or one of a list to the right and below. Where it
+ * doesn't, it may fit another free box.
+ * crates/atlas_store/src/store/choosing.rt
+ */
+SMALL bool atlas_store_store_Store_fits_at_once(const atlas_store_Store *self, atlas_model_Size size) {
+    slice_Slot slice_3;
+    slice_3 = std_alloc_vec_derefs_VecDerefSlice_deref_Slot(&self->slots);
+    return atlas_search_glance_fits_at_once_Slot(slice_3, &self->lists, &self->options, size);
+}
+
 /* The free slot that a request of this rounded size takes; None if it fits none.
  * crates/atlas_store/src/store/choosing.rt
  */
-SMALL Option_Found atlas_store_store_Store_choose(const atlas_store_Store *self, atlas_model_Size size) {
+PART Option_Found atlas_store_store_Store_choose(const atlas_store_Store *self, atlas_model_Size size) {
     slice_Slot slice_3;
     slice_3 = std_alloc_vec_derefs_VecDerefSlice_deref_Slot(&self->slots);
     return atlas_search_search_pick_Slot(slice_3, &self->lists, &self->options, size);
@@ -19891,22 +19947,20 @@ SMALL void core_mem_drop_PagedAtlas(atlas_pages_PagedAtlas x) {
 
 /* Grants a request on the first page that has room for it. Where none has, a page is added. None if then there are as many
  * pages as there may be, or if the request has no room on an empty page. `Slots` if the page has too few of them, `Memory` if
- * memory is refused. Unless something is granted, nothing changes. One search on each page up to that one, and
- * there the request; where none has room, the making of a page.
+ * memory is refused. Unless something is granted, nothing changes. One request of each page up to that one; where none has room, the
+ * making of a page.
  * crates/atlas_pages/src/paged.rt
  */
 SMALL Result_Option_PageAllocation_AtlasError atlas_pages_paged_PagedAtlas_allocate(atlas_pages_PagedAtlas *self, atlas_model_Size size) {
-    Option_u64 option_4;
-    slice_AtlasAllocator slice_5;
-    Result_Option_PageAllocation_AtlasError result_8;
-    slice_5 = std_alloc_vec_derefs_VecDerefSlice_deref_AtlasAllocator(&self->pages);
-    option_4 = guillotiere_pages_page_with_room(slice_5, size);
-    if (option_4.tag == 1u /* Some */) {
-        result_8 = atlas_pages_paged_PagedAtlas_allocate_there(self, option_4.Some.field_0, size);
+    Option_tuple_u64_Result_Option_Allocation_AtlasError option_5;
+    Result_Option_PageAllocation_AtlasError result_7;
+    option_5 = atlas_pages_paged_steps_grant_first(&self->pages, size);
+    if (option_5.tag == 1u /* Some */) {
+        result_7 = atlas_pages_paged_at_page(option_5.Some.field_0.field_0, self->most, option_5.Some.field_0.field_1);
     } else {
-        result_8 = atlas_pages_paged_PagedAtlas_allocate_anew(self, size);
+        result_7 = atlas_pages_paged_PagedAtlas_allocate_anew(self, size);
     }
-    return result_8;
+    return result_7;
 }
 
 /* std_alloc/src/boxed/methods.rt */
@@ -22128,6 +22182,38 @@ SMALL Option_Size atlas_search_choice_rounded(atlas_model_Size size, const atlas
     return new_Option_Size_Some(new_atlas_model_Size(n_4, n_15));
 }
 
+/* Whether a request of this rounded size fits the first box of its own list, or one of a list to the right and below. Where it
+ * doesn't, it may fit another free box.
+ * crates/atlas_search/src/glance.rt
+ */
+SMALL bool atlas_search_glance_fits_at_once_Slot(slice_Slot entries, const atlas_search_Table *table, const atlas_search_Scale *options,
+        atlas_model_Size size) {
+    atlas_search_Place place_5;
+    uint64_t n_6;
+    bool is_7;
+    atlas_search_Link link_10;
+    bool is_11;
+    uint32_t n_13;
+    atlas_model_Rectangle rectangle_14;
+    is_7 = atlas_search_table_Table_is_grown(table);
+    if (!is_7) {
+        return false;
+    }
+    place_5 = atlas_search_bands_Scale_place_for(options, size);
+    if (atlas_search_glance_has_beyond(table, place_5)) {
+        return true;
+    }
+    link_10 = atlas_search_table_Table_stored_head(table, place_5);
+    n_6 = (uint64_t)link_10.number;
+    is_11 = n_6 < entries.len;
+    if (is_11) {
+        rectangle_14 = atlas_store_slots_entry_SlotEntry_rectangle(((atlas_store_Slot *)entries.at + n_6));
+        n_13 = atlas_search_choice_margin_in(rectangle_14, size);
+        is_11 = (int32_t)0u <= (int32_t)n_13;
+    }
+    return is_11;
+}
+
 /* The free entry that a request of this rounded size takes.
  * crates/atlas_search/src/search.rt
  */
@@ -23080,34 +23166,53 @@ SMALL void guillotiere_c_atlas_pages_paged_PagedAtlas_Destruct_drop(atlas_pages_
     std_alloc_vec_Vec_drop_AtlasAllocator(given_1.pages);
 }
 
-/* The first page on which a request has room, by `can_fit`; None if it has room on none.
- * crates/guillotiere/src/pages.rt
+/* Asks one page after another for a box. The first that grants it, or refuses it by an error, and its answer; None if no page has room, and
+ * then nothing changes.
+ * crates/atlas_pages/src/paged/steps.rt
  */
-SMALL Option_u64 guillotiere_pages_page_with_room(slice_AtlasAllocator pages, atlas_model_Size size) {
+SMALL Option_tuple_u64_Result_Option_Allocation_AtlasError atlas_pages_paged_steps_grant_first(Vec_Slot *pages, atlas_model_Size size) {
     uint64_t n_3;
-    uint64_t n_4;
+    Result_Option_Allocation_AtlasError result_4;
+    uint64_t n_5;
+    bool is_14;
     n_3 = 0u;
-    n_4 = pages.len;
+    n_5 = std_alloc_vec_Vec_len_Allocation(pages);
     for (;;) {
-        if (!(n_3 < n_4)) {
+        if (!(n_3 < n_5)) {
             break;
         }
-        if (guillotiere_pages_has_room(((atlas_allocator_AtlasAllocator *)pages.at + n_3), size)) {
-            return new_Option_u64_Some(n_3);
+        result_4 = atlas_pages_paged_steps_grant_at(pages, n_3, size);
+        is_14 = atlas_pages_paged_steps_is_nothing(&result_4);
+        if (!is_14) {
+            return new_Option_tuple_u64_Result_Option_Allocation_AtlasError_Some(new_tuple_u64_Result_Option_Allocation_AtlasError(n_3,
+                    result_4));
         }
         n_3 = n_3 + 1u;
     }
-    return new_Option_u64_None();
+    return new_Option_tuple_u64_Result_Option_Allocation_AtlasError_None();
 }
 
-/* The same on a page that has room.
+/* The answer to a request to a page, with the page's number.
  * crates/atlas_pages/src/paged.rt
  */
-SMALL Result_Option_PageAllocation_AtlasError atlas_pages_paged_PagedAtlas_allocate_there(atlas_pages_PagedAtlas *self, uint64_t page,
-        atlas_model_Size size) {
-    Result_Option_Allocation_AtlasError result_4;
-    result_4 = atlas_pages_paged_steps_grant_at(&self->pages, page, size);
-    return atlas_pages_paged_at_page(page, self->most, result_4);
+SMALL Result_Option_PageAllocation_AtlasError atlas_pages_paged_at_page(uint64_t page, uint32_t most,
+        Result_Option_Allocation_AtlasError answer) {
+    atlas_model_Allocation allocation_4;
+    Result_Option_PageAllocation_AtlasError result_6;
+    uint32_t n_7;
+    if (answer.tag == 0u /* Ok */) {
+        if (answer.is.Ok.field_0.tag == 1u /* Some */) {
+            allocation_4 = answer.is.Ok.field_0.Some.field_0;
+            n_7 = atlas_pages_paged_number(page, most);
+            result_6 = new_Result_Option_PageAllocation_AtlasError_Ok(new_Option_PageAllocation_Some(new_atlas_pages_PageAllocation(n_7,
+                    allocation_4.id, allocation_4.rectangle)));
+        } else {
+            result_6 = new_Result_Option_PageAllocation_AtlasError_Ok(new_Option_PageAllocation_None());
+        }
+    } else {
+        result_6 = new_Result_Option_PageAllocation_AtlasError_Err(answer.is.Err.field_0);
+    }
+    return result_6;
 }
 
 /* The same on a page that is added.
@@ -25502,6 +25607,15 @@ SMALL Option_u32 atlas_search_choice_rounded_side(uint32_t side, uint32_t alignm
     return option_10;
 }
 
+/* Whether there is room for all slots. Before that only the first eight come first in lists.
+ * crates/atlas_search/src/table.rt
+ */
+SMALL bool atlas_search_table_Table_is_grown(const atlas_search_Table *self) {
+    bool is_2;
+    is_2 = std_alloc_vec_Vec_is_empty_Link(&self->heads);
+    return !is_2;
+}
+
 /* The list of a size.
  * crates/atlas_search/src/bands.rt
  */
@@ -25518,6 +25632,71 @@ SMALL atlas_search_Place atlas_search_bands_Scale_place_for(const atlas_search_S
     n_8 = atlas_search_bands_band(size.width, &self->options);
     n_10 = atlas_search_bands_band(size.height, &self->options);
     return new_atlas_search_Place(n_8, n_10);
+}
+
+/* Whether a list to the right and below a place has a slot; of each row the first list that may have one is looked at.
+ * crates/atlas_search/src/glance.rt
+ */
+SMALL bool atlas_search_glance_has_beyond(const atlas_search_Table *table, atlas_search_Place own) {
+    atlas_search_Mask mask_3;
+    uint64_t n_4;
+    uint64_t n_5;
+    atlas_search_Mask mask_7;
+    Option_u64 option_9;
+    atlas_search_Mask mask_11;
+    atlas_search_Mask mask_12;
+    atlas_search_Link link_15;
+    mask_7 = atlas_search_table_Table_used(table);
+    mask_3 = atlas_search_masks_Mask_from(mask_7, own.row + 1u);
+    for (;;) {
+        option_9 = atlas_search_masks_Mask_take_first(&mask_3);
+        if (option_9.tag == 1u /* Some */) {
+            n_4 = option_9.Some.field_0;
+            mask_12 = atlas_search_table_Table_row(table, n_4);
+            mask_11 = atlas_search_masks_Mask_from(mask_12, own.column + 1u);
+            n_5 = atlas_search_masks_Mask_first(mask_11);
+            if (n_5 < 52u) {
+                link_15 = atlas_search_table_Table_stored_head(table, new_atlas_search_Place(n_4, n_5));
+                if (link_15.number != 4294967295u) {
+                    return true;
+                }
+            }
+        } else {
+            break;
+        }
+    }
+    return false;
+}
+
+/* The first slot of a list, or none, in a table that has grown.
+ * crates/atlas_search/src/table.rt
+ */
+SMALL atlas_search_Link atlas_search_table_Table_stored_head(const atlas_search_Table *self, atlas_search_Place at) {
+    const atlas_search_Link *at_3;
+    at_3 = std_alloc_vec_derefs_VecIndexUsize_index_Link(&self->heads, (52u * at.row) + at.column);
+    return *at_3;
+}
+
+/* crates/atlas_store/src/slots/entry.rt */
+SMALL atlas_model_Rectangle atlas_store_slots_entry_SlotEntry_rectangle(const atlas_store_Slot *self) {
+    return self->area;
+}
+
+/* The smaller of the two side differences, which is below 0 exactly if the size does not fit.
+ * crates/atlas_search/src/choice.rt
+ */
+SMALL uint32_t atlas_search_choice_margin_in(atlas_model_Rectangle rectangle, atlas_model_Size size) {
+    uint32_t n_3;
+    uint32_t n_4;
+    uint32_t n_6;
+    n_3 = atlas_search_choice_spare(rectangle.min_.x, rectangle.max_.x, size.width);
+    n_4 = atlas_search_choice_spare(rectangle.min_.y, rectangle.max_.y, size.height);
+    if ((int32_t)n_3 < (int32_t)n_4) {
+        n_6 = n_3;
+    } else {
+        n_6 = n_4;
+    }
+    return n_6;
 }
 
 /* core::int::usize::max */
@@ -25570,10 +25749,10 @@ SMALL atlas_search_Mask atlas_search_table_Table_column(const atlas_search_Table
 }
 
 /* A row or column that each list with a slot reaches, of those from a place on, where these are the columns of its row;
- * not less than the place's own, the greater of which is `far`.
+ * not less than the place's own, the greater of which is given.
  * crates/atlas_search/src/search.rt
  */
-SMALL uint64_t atlas_search_search_least_from(const atlas_search_Table *table, atlas_search_Place own, uint64_t far_,
+SMALL uint64_t atlas_search_search_least_from(const atlas_search_Table *table, atlas_search_Place own, uint64_t greater,
         atlas_search_Mask columns) {
     atlas_search_Mask mask_5;
     atlas_search_Mask mask_6;
@@ -25583,7 +25762,7 @@ SMALL uint64_t atlas_search_search_least_from(const atlas_search_Table *table, a
     mask_5 = atlas_search_masks_Mask_from(mask_6, own.row + 1u);
     mask_8 = atlas_search_masks_Mask_or(columns, mask_5);
     n_9 = atlas_search_masks_Mask_first(mask_8);
-    return core_int_usize_max(n_9, far_);
+    return core_int_usize_max(n_9, greater);
 }
 
 /* No box was shown yet for a request of this rounded size.
@@ -25627,7 +25806,7 @@ SMALL bool atlas_search_search_search_before_Slot(slice_Slot entries, const atla
     atlas_search_Mask mask_21;
     atlas_search_Mask mask_22;
     mask_12 = atlas_search_masks_Mask_below(columns, end);
-    atlas_search_search_search_row_Slot(entries, table, own.row, mask_12, best);
+    atlas_search_search_search_row_Slot(entries, table, own.row, mask_12, false, best);
     mask_19 = atlas_search_masks_Mask_below(rows, end);
     atlas_search_search_search_column_Slot(entries, table, own.column, mask_19, best);
     if (atlas_search_best_Best_has_equal_side(best)) {
@@ -25654,11 +25833,6 @@ SMALL Option_Link atlas_search_best_Best_found(const atlas_search_Best *self) {
     return option_4;
 }
 
-/* crates/atlas_store/src/slots/entry.rt */
-SMALL atlas_model_Rectangle atlas_store_slots_entry_SlotEntry_rectangle(const atlas_store_Slot *self) {
-    return self->area;
-}
-
 /* The numbers of one of two sets.
  * crates/atlas_search/src/masks.rt
  */
@@ -25671,15 +25845,6 @@ SMALL atlas_search_Mask atlas_search_masks_Mask_or(atlas_search_Mask self, atlas
  */
 SMALL bool atlas_search_masks_Mask_is_empty(atlas_search_Mask self) {
     return self.bits == 0u;
-}
-
-/* Whether there is room for all slots. Before that only the first eight come first in lists.
- * crates/atlas_search/src/table.rt
- */
-SMALL bool atlas_search_table_Table_is_grown(const atlas_search_Table *self) {
-    bool is_2;
-    is_2 = std_alloc_vec_Vec_is_empty_Link(&self->heads);
-    return !is_2;
 }
 
 /* The free entry that a request of this rounded size takes, where only the first few slots come first in lists.
@@ -26540,13 +26705,6 @@ SMALL atlas_pages_PagesError core_convert_AnyFrom_from_PagesError(atlas_pages_Pa
     return given_1;
 }
 
-/* Whether a request has room on a page.
- * crates/guillotiere/src/pages.rt
- */
-SMALL bool guillotiere_pages_has_room(const atlas_allocator_AtlasAllocator *page, atlas_model_Size size) {
-    return atlas_allocator_atlas_AtlasAllocator_can_fit(page, size);
-}
-
 /* `grant_on` in a list.
  * crates/atlas_pages/src/paged/steps.rt
  */
@@ -26556,27 +26714,20 @@ SMALL Result_Option_Allocation_AtlasError atlas_pages_paged_steps_grant_at(Vec_S
     return atlas_pages_paged_steps_grant_on(slice_4, page, size);
 }
 
-/* The answer to a request to a page, with the page's number.
- * crates/atlas_pages/src/paged.rt
+/* Whether a page has no room for a request.
+ * crates/atlas_pages/src/paged/steps.rt
  */
-SMALL Result_Option_PageAllocation_AtlasError atlas_pages_paged_at_page(uint64_t page, uint32_t most,
-        Result_Option_Allocation_AtlasError answer) {
-    atlas_model_Allocation allocation_4;
-    Result_Option_PageAllocation_AtlasError result_6;
-    uint32_t n_7;
-    if (answer.tag == 0u /* Ok */) {
-        if (answer.is.Ok.field_0.tag == 1u /* Some */) {
-            allocation_4 = answer.is.Ok.field_0.Some.field_0;
-            n_7 = atlas_pages_paged_number(page, most);
-            result_6 = new_Result_Option_PageAllocation_AtlasError_Ok(new_Option_PageAllocation_Some(new_atlas_pages_PageAllocation(n_7,
-                    allocation_4.id, allocation_4.rectangle)));
-        } else {
-            result_6 = new_Result_Option_PageAllocation_AtlasError_Ok(new_Option_PageAllocation_None());
+SMALL bool atlas_pages_paged_steps_is_nothing(const Result_Option_Allocation_AtlasError *answer) {
+    bool is_2;
+    if (answer->tag == 0u /* Ok */) {
+        if (answer->is.Ok.field_0.tag == 0u /* None */) {
+            is_2 = true;
+            goto after_1;
         }
-    } else {
-        result_6 = new_Result_Option_PageAllocation_AtlasError_Err(answer.is.Err.field_0);
     }
-    return result_6;
+    is_2 = false;
+after_1:;
+    return is_2;
 }
 
 /* A page with a first box on it comes last; None if the request has no room there.
@@ -30154,6 +30305,52 @@ SMALL uint64_t atlas_search_bands_band(uint32_t side, const atlas_model_Allocato
     return (n_3 + n_5) + n_8;
 }
 
+/* The rows with a list that may have a slot: each with one that has. In a table that hasn't grown, none.
+ * crates/atlas_search/src/table.rt
+ */
+SMALL atlas_search_Mask atlas_search_table_Table_used(const atlas_search_Table *self) {
+    const atlas_search_Marks *at_4;
+    if (std_alloc_vec_Vec_is_empty_Link(&self->marks)) {
+        return atlas_search_masks_Mask_none();
+    }
+    at_4 = std_alloc_vec_derefs_VecIndexUsize_index_Marks(&self->marks, 0u);
+    return atlas_search_marks_Marks_used(at_4);
+}
+
+/* Takes the least number out of the set; None if there is none.
+ * crates/atlas_search/src/masks.rt
+ */
+SMALL Option_u64 atlas_search_masks_Mask_take_first(atlas_search_Mask *self) {
+    uint32_t n_2;
+    if (self->bits == 0u) {
+        return new_Option_u64_None();
+    }
+    n_2 = trailing_zeros_64(self->bits);
+    self->bits = self->bits & (self->bits - 1u);
+    return new_Option_u64_Some((uint64_t)n_2);
+}
+
+/* The least number of the set, and 64 if there is none.
+ * crates/atlas_search/src/masks.rt
+ */
+SMALL uint64_t atlas_search_masks_Mask_first(atlas_search_Mask self) {
+    return (uint64_t)trailing_zeros_64(self.bits);
+}
+
+/* std_alloc/src/vec/derefs.rt */
+SMALL const atlas_search_Link *std_alloc_vec_derefs_VecIndexUsize_index_Link(const Vec_Slot *self, uint64_t index) {
+    slice_Link slice_3;
+    slice_3 = std_alloc_vec_Vec_as_slice_Link(self);
+    return ((atlas_search_Link *)slice_3.at + index);
+}
+
+/* What a side leaves of a stretch, which is below 0 exactly if it does not fit.
+ * crates/atlas_search/src/choice.rt
+ */
+SMALL uint32_t atlas_search_choice_spare(uint32_t from, uint32_t to, uint32_t side) {
+    return (to - from) - side;
+}
+
 /* The set of no number.
  * crates/atlas_search/src/masks.rt
  */
@@ -30175,25 +30372,6 @@ SMALL atlas_search_Mask atlas_search_marks_Marks_column(const atlas_search_Marks
     return *((atlas_search_Mask *)(void *)&self->columns + j);
 }
 
-/* The rows with a list that may have a slot: each with one that has. In a table that hasn't grown, none.
- * crates/atlas_search/src/table.rt
- */
-SMALL atlas_search_Mask atlas_search_table_Table_used(const atlas_search_Table *self) {
-    const atlas_search_Marks *at_4;
-    if (std_alloc_vec_Vec_is_empty_Link(&self->marks)) {
-        return atlas_search_masks_Mask_none();
-    }
-    at_4 = std_alloc_vec_derefs_VecIndexUsize_index_Marks(&self->marks, 0u);
-    return atlas_search_marks_Marks_used(at_4);
-}
-
-/* The least number of the set, and 64 if there is none.
- * crates/atlas_search/src/masks.rt
- */
-SMALL uint64_t atlas_search_masks_Mask_first(atlas_search_Mask self) {
-    return (uint64_t)trailing_zeros_64(self.bits);
-}
-
 /* The numbers of the set below one.
  * crates/atlas_search/src/masks.rt
  */
@@ -30205,14 +30383,14 @@ SMALL atlas_search_Mask atlas_search_masks_Mask_below(atlas_search_Mask self, ui
  * crates/atlas_search/src/search.rt
  */
 SMALL void atlas_search_search_search_row_Slot(slice_Slot entries, const atlas_search_Table *table, uint64_t row,
-        atlas_search_Mask columns, atlas_search_Best *best) {
-    atlas_search_Mask mask_6;
-    Option_u64 option_8;
-    mask_6 = columns;
+        atlas_search_Mask columns, bool is_larger, atlas_search_Best *best) {
+    atlas_search_Mask mask_7;
+    Option_u64 option_9;
+    mask_7 = columns;
     for (;;) {
-        option_8 = atlas_search_masks_Mask_take_first(&mask_6);
-        if (option_8.tag == 1u /* Some */) {
-            atlas_search_search_search_list_Slot(entries, table, new_atlas_search_Place(row, option_8.Some.field_0), best);
+        option_9 = atlas_search_masks_Mask_take_first(&mask_7);
+        if (option_9.tag == 1u /* Some */) {
+            atlas_search_search_search_list_Slot(entries, table, new_atlas_search_Place(row, option_9.Some.field_0), is_larger, best);
         } else {
             break;
         }
@@ -30230,7 +30408,7 @@ SMALL void atlas_search_search_search_column_Slot(slice_Slot entries, const atla
     for (;;) {
         option_8 = atlas_search_masks_Mask_take_first(&mask_6);
         if (option_8.tag == 1u /* Some */) {
-            atlas_search_search_search_list_Slot(entries, table, new_atlas_search_Place(option_8.Some.field_0, column), best);
+            atlas_search_search_search_list_Slot(entries, table, new_atlas_search_Place(option_8.Some.field_0, column), false, best);
         } else {
             break;
         }
@@ -30295,8 +30473,8 @@ SMALL void atlas_search_search_search_rows_Slot(slice_Slot entries, const atlas_
             mask_15 = atlas_search_table_Table_row(table, n_9);
             mask_14 = atlas_search_masks_Mask_from(mask_15, first);
             mask_10 = atlas_search_masks_Mask_below(mask_14, end);
-            mask_11 = atlas_search_search_near(options, n_9, mask_10, best);
-            atlas_search_search_search_row_Slot(entries, table, n_9, mask_11, best);
+            mask_11 = atlas_search_search_columns_near(options, n_9, mask_10, best);
+            atlas_search_search_search_row_Slot(entries, table, n_9, mask_11, true, best);
         } else {
             break;
         }
@@ -30326,7 +30504,7 @@ SMALL void atlas_search_search_search_few_Slot(slice_Slot entries, const atlas_s
         n_12 = core_int_usize_max(n_7, n_8);
         if (n_12 < end) {
             link_14 = atlas_search_table_Table_head(table, new_atlas_search_Place(n_7, n_8));
-            atlas_search_search_show_list_Slot(entries, link_14, best);
+            atlas_search_search_show_list_Slot(entries, link_14, false, best);
         }
         n_5 = n_5 + 1u;
     }
@@ -30693,7 +30871,7 @@ SMALL bool atlas_search_search_search_before_FreeBox(slice_FreeBox entries, cons
     atlas_search_Mask mask_21;
     atlas_search_Mask mask_22;
     mask_12 = atlas_search_masks_Mask_below(columns, end);
-    atlas_search_search_search_row_FreeBox(entries, table, own.row, mask_12, best);
+    atlas_search_search_search_row_FreeBox(entries, table, own.row, mask_12, false, best);
     mask_19 = atlas_search_masks_Mask_below(rows, end);
     atlas_search_search_search_column_FreeBox(entries, table, own.column, mask_19, best);
     if (atlas_search_best_Best_has_equal_side(best)) {
@@ -30882,19 +31060,6 @@ SMALL slice_Marks std_alloc_vec_Vec_as_slice_Marks(const Vec_Slot *self) {
  */
 SMALL atlas_search_Mask atlas_search_marks_Marks_used(const atlas_search_Marks *self) {
     return self->used;
-}
-
-/* Takes the least number out of the set; None if there is none.
- * crates/atlas_search/src/masks.rt
- */
-SMALL Option_u64 atlas_search_masks_Mask_take_first(atlas_search_Mask *self) {
-    uint32_t n_2;
-    if (self->bits == 0u) {
-        return new_Option_u64_None();
-    }
-    n_2 = trailing_zeros_64(self->bits);
-    self->bits = self->bits & (self->bits - 1u);
-    return new_Option_u64_Some((uint64_t)n_2);
 }
 
 /* The lists of a row are empty in these columns from now on.
@@ -35152,16 +35317,16 @@ SMALL uint64_t atlas_search_bands_passed(uint32_t side, uint32_t threshold) {
  * crates/atlas_search/src/search.rt
  */
 SMALL void atlas_search_search_search_list_Slot(slice_Slot entries, const atlas_search_Table *table, atlas_search_Place place,
-        atlas_search_Best *best) {
-    atlas_search_Link link_6;
-    link_6 = atlas_search_table_Table_stored_head(table, place);
-    atlas_search_search_show_list_Slot(entries, link_6, best);
+        bool is_larger, atlas_search_Best *best) {
+    atlas_search_Link link_7;
+    link_7 = atlas_search_table_Table_stored_head(table, place);
+    atlas_search_search_show_list_Slot(entries, link_7, is_larger, best);
 }
 
 /* Of the columns of a row those with a list that may hold a better box than the best.
  * crates/atlas_search/src/search.rt
  */
-SMALL atlas_search_Mask atlas_search_search_near(const atlas_search_Scale *options, uint64_t row, atlas_search_Mask columns,
+SMALL atlas_search_Mask atlas_search_search_columns_near(const atlas_search_Scale *options, uint64_t row, atlas_search_Mask columns,
         const atlas_search_Best *best) {
     atlas_model_Size size_5;
     atlas_search_Place place_6;
@@ -35186,30 +35351,37 @@ SMALL uint64_t atlas_search_table_Table_list_of_few(const atlas_search_Table *se
     return (uint64_t)*((uint16_t *)(void *)&self->only + i);
 }
 
-/* Shows a list that begins with this to a search.
+/* Shows a list that begins with this to a search. Where it is of larger sizes alone, it may be enough to look at its first entry.
  * crates/atlas_search/src/search.rt
  */
-SMALL void atlas_search_search_show_list_Slot(slice_Slot entries, atlas_search_Link top, atlas_search_Best *best) {
-    const atlas_store_Slot *at_4;
-    atlas_search_Halves halves_5;
-    atlas_search_Cell cell_12;
-    atlas_model_Size size_13;
-    atlas_model_Rectangle rectangle_14;
-    atlas_search_Link link_16;
-    atlas_search_Link link_23;
+SMALL void atlas_search_search_show_list_Slot(slice_Slot entries, atlas_search_Link top, bool is_larger, atlas_search_Best *best) {
+    const atlas_store_Slot *at_5;
+    atlas_model_Rectangle rectangle_6;
+    atlas_search_Cell cell_7;
+    atlas_search_Halves halves_8;
+    atlas_model_Size size_15;
+    uint64_t n_18;
+    atlas_search_Link link_21;
+    atlas_search_Link link_29;
     if (entries.len <= (uint64_t)top.number) {
         return;
     }
-    at_4 = ((atlas_store_Slot *)entries.at + (uint64_t)top.number);
-    if (atlas_search_search_show_entry_Slot(at_4, top, best)) {
-        rectangle_14 = atlas_store_slots_entry_SlotEntry_rectangle(at_4);
-        size_13 = atlas_search_cut_exact_size(rectangle_14);
-        cell_12 = atlas_search_cells_Cell_around(size_13);
-        halves_5 = atlas_search_cells_Cell_halves(cell_12);
-        link_16 = atlas_store_slots_entry_SlotEntry_left(at_4);
-        atlas_search_search_show_Slot(entries, link_16, halves_5.low, best);
-        link_23 = atlas_store_slots_entry_SlotEntry_right(at_4);
-        atlas_search_search_show_Slot(entries, link_23, halves_5.high, best);
+    at_5 = ((atlas_store_Slot *)entries.at + (uint64_t)top.number);
+    if (atlas_search_search_show_entry_Slot(at_5, top, best)) {
+        rectangle_6 = atlas_store_slots_entry_SlotEntry_rectangle(at_5);
+        size_15 = atlas_search_cut_exact_size(rectangle_6);
+        cell_7 = atlas_search_cells_Cell_around(size_15);
+        if (is_larger) {
+            n_18 = atlas_search_best_corner(rectangle_6);
+            if (atlas_search_best_Best_ends_in(best, cell_7, n_18)) {
+                return;
+            }
+        }
+        halves_8 = atlas_search_cells_Cell_halves(cell_7);
+        link_21 = atlas_store_slots_entry_SlotEntry_left(at_5);
+        atlas_search_search_show_Slot(entries, link_21, halves_8.low, best);
+        link_29 = atlas_store_slots_entry_SlotEntry_right(at_5);
+        atlas_search_search_show_Slot(entries, link_29, halves_8.high, best);
     }
 }
 
@@ -35533,14 +35705,14 @@ SMALL void std_alloc_vec_opened_drop_run_FreeBox(Slots_CacheChange_u64 *row, uin
  * crates/atlas_search/src/search.rt
  */
 SMALL void atlas_search_search_search_row_FreeBox(slice_FreeBox entries, const atlas_search_Table *table, uint64_t row,
-        atlas_search_Mask columns, atlas_search_Best *best) {
-    atlas_search_Mask mask_6;
-    Option_u64 option_8;
-    mask_6 = columns;
+        atlas_search_Mask columns, bool is_larger, atlas_search_Best *best) {
+    atlas_search_Mask mask_7;
+    Option_u64 option_9;
+    mask_7 = columns;
     for (;;) {
-        option_8 = atlas_search_masks_Mask_take_first(&mask_6);
-        if (option_8.tag == 1u /* Some */) {
-            atlas_search_search_search_list_FreeBox(entries, table, new_atlas_search_Place(row, option_8.Some.field_0), best);
+        option_9 = atlas_search_masks_Mask_take_first(&mask_7);
+        if (option_9.tag == 1u /* Some */) {
+            atlas_search_search_search_list_FreeBox(entries, table, new_atlas_search_Place(row, option_9.Some.field_0), is_larger, best);
         } else {
             break;
         }
@@ -35558,7 +35730,7 @@ SMALL void atlas_search_search_search_column_FreeBox(slice_FreeBox entries, cons
     for (;;) {
         option_8 = atlas_search_masks_Mask_take_first(&mask_6);
         if (option_8.tag == 1u /* Some */) {
-            atlas_search_search_search_list_FreeBox(entries, table, new_atlas_search_Place(option_8.Some.field_0, column), best);
+            atlas_search_search_search_list_FreeBox(entries, table, new_atlas_search_Place(option_8.Some.field_0, column), false, best);
         } else {
             break;
         }
@@ -35585,8 +35757,8 @@ SMALL void atlas_search_search_search_rows_FreeBox(slice_FreeBox entries, const 
             mask_15 = atlas_search_table_Table_row(table, n_9);
             mask_14 = atlas_search_masks_Mask_from(mask_15, first);
             mask_10 = atlas_search_masks_Mask_below(mask_14, end);
-            mask_11 = atlas_search_search_near(options, n_9, mask_10, best);
-            atlas_search_search_search_row_FreeBox(entries, table, n_9, mask_11, best);
+            mask_11 = atlas_search_search_columns_near(options, n_9, mask_10, best);
+            atlas_search_search_search_row_FreeBox(entries, table, n_9, mask_11, true, best);
         } else {
             break;
         }
@@ -35617,7 +35789,7 @@ SMALL void atlas_search_search_search_few_FreeBox(slice_FreeBox entries, const a
         n_12 = core_int_usize_max(n_7, n_8);
         if (n_12 < end) {
             link_14 = atlas_search_table_Table_head(table, new_atlas_search_Place(n_7, n_8));
-            atlas_search_search_show_list_FreeBox(entries, link_14, best);
+            atlas_search_search_show_list_FreeBox(entries, link_14, false, best);
         }
         n_5 = n_5 + 1u;
     }
@@ -39846,15 +40018,6 @@ SMALL void atlas_store_slots_lists_renew(slice_Slot_2 slots, atlas_search_Link a
     atlas_store_slots_write_node(new_slice_Slot_2(slots.at, slots.len), at, node_3);
 }
 
-/* The first slot of a list, or none, in a table that has grown.
- * crates/atlas_search/src/table.rt
- */
-SMALL atlas_search_Link atlas_search_table_Table_stored_head(const atlas_search_Table *self, atlas_search_Place at) {
-    const atlas_search_Link *at_3;
-    at_3 = std_alloc_vec_derefs_VecIndexUsize_index_Link(&self->heads, (52u * at.row) + at.column);
-    return *at_3;
-}
-
 /* A size such that no box is better than the best that is both wider and higher; None as long as none is known, where the
  * request is large and the best has no equal side, and where a side may pass what an `i32` can hold.
  * crates/atlas_search/src/best.rt
@@ -39894,6 +40057,27 @@ SMALL bool atlas_search_search_show_entry_Slot(const atlas_store_Slot *entry, at
         return false;
     }
     return atlas_store_slots_entry_SlotEntry_is_fork(entry);
+}
+
+/* The `min` of a box as one number, the greater the later the box comes: the y, and below it the x.
+ * crates/atlas_search/src/best.rt
+ */
+SMALL uint64_t atlas_search_best_corner(atlas_model_Rectangle rectangle) {
+    return ((uint64_t)rectangle.min_.y * UINT64_C(4294967296)) + (uint64_t)rectangle.min_.x;
+}
+
+/* Whether no box of a size in this cell that begins at this corner or later is better than the best, since each leaves over as much as
+ * that or more. It isn't said where the best has an equal side, nor of a large request.
+ * crates/atlas_search/src/best.rt
+ */
+SMALL bool atlas_search_best_Best_ends_in(const atlas_search_Best *self, atlas_search_Cell cell, uint64_t corner) {
+    if (corner < self->corner) {
+        return false;
+    }
+    if (self->reach == 0u) {
+        return false;
+    }
+    return atlas_search_cells_Cell_is_beyond(cell, self->size, self->reach - 1u);
 }
 
 /* The halves of a cell of more than one size.
@@ -40273,36 +40457,43 @@ SMALL void core_mem_drop_FreeBox(guillotiere_FreeBox x) {
  * crates/atlas_search/src/search.rt
  */
 SMALL void atlas_search_search_search_list_FreeBox(slice_FreeBox entries, const atlas_search_Table *table, atlas_search_Place place,
-        atlas_search_Best *best) {
-    atlas_search_Link link_6;
-    link_6 = atlas_search_table_Table_stored_head(table, place);
-    atlas_search_search_show_list_FreeBox(entries, link_6, best);
+        bool is_larger, atlas_search_Best *best) {
+    atlas_search_Link link_7;
+    link_7 = atlas_search_table_Table_stored_head(table, place);
+    atlas_search_search_show_list_FreeBox(entries, link_7, is_larger, best);
 }
 
-/* Shows a list that begins with this to a search.
+/* Shows a list that begins with this to a search. Where it is of larger sizes alone, it may be enough to look at its first entry.
  * crates/atlas_search/src/search.rt
  */
-SMALL void atlas_search_search_show_list_FreeBox(slice_FreeBox entries, atlas_search_Link top, atlas_search_Best *best) {
-    const guillotiere_FreeBox *at_4;
-    atlas_search_Halves halves_5;
-    atlas_search_Cell cell_12;
-    atlas_model_Size size_13;
-    atlas_model_Rectangle rectangle_14;
-    atlas_search_Link link_16;
-    atlas_search_Link link_23;
+SMALL void atlas_search_search_show_list_FreeBox(slice_FreeBox entries, atlas_search_Link top, bool is_larger, atlas_search_Best *best) {
+    const guillotiere_FreeBox *at_5;
+    atlas_model_Rectangle rectangle_6;
+    atlas_search_Cell cell_7;
+    atlas_search_Halves halves_8;
+    atlas_model_Size size_15;
+    uint64_t n_18;
+    atlas_search_Link link_21;
+    atlas_search_Link link_29;
     if (entries.len <= (uint64_t)top.number) {
         return;
     }
-    at_4 = ((guillotiere_FreeBox *)entries.at + (uint64_t)top.number);
-    if (atlas_search_search_show_entry_FreeBox(at_4, top, best)) {
-        rectangle_14 = guillotiere_simple_boxes_FreeBoxEntry_rectangle(at_4);
-        size_13 = atlas_search_cut_exact_size(rectangle_14);
-        cell_12 = atlas_search_cells_Cell_around(size_13);
-        halves_5 = atlas_search_cells_Cell_halves(cell_12);
-        link_16 = guillotiere_simple_boxes_FreeBoxEntry_left(at_4);
-        atlas_search_search_show_FreeBox(entries, link_16, halves_5.low, best);
-        link_23 = guillotiere_simple_boxes_FreeBoxEntry_right(at_4);
-        atlas_search_search_show_FreeBox(entries, link_23, halves_5.high, best);
+    at_5 = ((guillotiere_FreeBox *)entries.at + (uint64_t)top.number);
+    if (atlas_search_search_show_entry_FreeBox(at_5, top, best)) {
+        rectangle_6 = guillotiere_simple_boxes_FreeBoxEntry_rectangle(at_5);
+        size_15 = atlas_search_cut_exact_size(rectangle_6);
+        cell_7 = atlas_search_cells_Cell_around(size_15);
+        if (is_larger) {
+            n_18 = atlas_search_best_corner(rectangle_6);
+            if (atlas_search_best_Best_ends_in(best, cell_7, n_18)) {
+                return;
+            }
+        }
+        halves_8 = atlas_search_cells_Cell_halves(cell_7);
+        link_21 = guillotiere_simple_boxes_FreeBoxEntry_left(at_5);
+        atlas_search_search_show_FreeBox(entries, link_21, halves_8.low, best);
+        link_29 = guillotiere_simple_boxes_FreeBoxEntry_right(at_5);
+        atlas_search_search_show_FreeBox(entries, link_29, halves_8.high, best);
     }
 }
 
@@ -40354,13 +40545,6 @@ SMALL uint64_t std_alloc_vec_least_capacity_FreeBox(void) {
 /* core/src/mem.rt */
 SMALL void core_mem_drop_FreeBox_2(guillotiere_FreeBox x) {
     guillotiere_Destruct_none_drop_FreeBox(x);
-}
-
-/* std_alloc/src/vec/derefs.rt */
-SMALL const atlas_search_Link *std_alloc_vec_derefs_VecIndexUsize_index_Link(const Vec_Slot *self, uint64_t index) {
-    slice_Link slice_3;
-    slice_3 = std_alloc_vec_Vec_as_slice_Link(self);
-    return ((atlas_search_Link *)slice_3.at + index);
 }
 
 /* The first slot of a list, or none, where these are the lists that the first few slots come first in.
@@ -44690,13 +44874,6 @@ SMALL uint32_t atlas_search_best_longer(uint32_t side, uint32_t more) {
     return side + more;
 }
 
-/* The `min` of a box as one number, the greater the later the box comes: the y, and below it the x.
- * crates/atlas_search/src/best.rt
- */
-SMALL uint64_t atlas_search_best_corner(atlas_model_Rectangle rectangle) {
-    return ((uint64_t)rectangle.min_.y * UINT64_C(4294967296)) + (uint64_t)rectangle.min_.x;
-}
-
 /* Whether the best has an equal side and begins at this corner or before it: no box that begins there or later is
  * better.
  * crates/atlas_search/src/best.rt
@@ -44737,6 +44914,20 @@ SMALL void atlas_search_best_Best_look(atlas_search_Best *self, atlas_model_Rect
 /* crates/atlas_store/src/slots/entry.rt */
 SMALL bool atlas_store_slots_entry_SlotEntry_is_fork(const atlas_store_Slot *self) {
     return self->is_fork;
+}
+
+/* Whether both sides of a size, and so much more, are before the first ones.
+ * crates/atlas_search/src/cells.rt
+ */
+SMALL bool atlas_search_cells_Cell_is_beyond(atlas_search_Cell self, atlas_model_Size size, uint32_t more) {
+    uint64_t n_5;
+    bool is_9;
+    is_9 = ((uint64_t)size.width + (uint64_t)more) < (uint64_t)self.left;
+    n_5 = (uint64_t)size.height + (uint64_t)more;
+    if (is_9) {
+        is_9 = n_5 < (uint64_t)self.top;
+    }
+    return is_9;
 }
 
 /* Whether it is divided by width.
@@ -48718,20 +48909,6 @@ SMALL uint32_t atlas_search_best_reach_of(bool is_large, uint32_t rank) {
     return rank;
 }
 
-/* Whether both sides of a size, and so much more, are before the first ones.
- * crates/atlas_search/src/cells.rt
- */
-SMALL bool atlas_search_cells_Cell_is_beyond(atlas_search_Cell self, atlas_model_Size size, uint32_t more) {
-    uint64_t n_5;
-    bool is_9;
-    is_9 = ((uint64_t)size.width + (uint64_t)more) < (uint64_t)self.left;
-    n_5 = (uint64_t)size.height + (uint64_t)more;
-    if (is_9) {
-        is_9 = n_5 < (uint64_t)self.top;
-    }
-    return is_9;
-}
-
 /* core::slots::lends::with_slots */
 SMALL void core_slots_lends_with_slots_Allocation_u64(slice_Allocation_2 given_1, void *given_2, uint64_t given_3) {
     uint64_t n_5;
@@ -51786,23 +51963,6 @@ SMALL void atlas_search_heap_swap_below_Slot(slice_Slot_2 entries, atlas_search_
     atlas_search_heap_relink_Slot(new_slice_Slot_2(entries.at, entries.len), above, links_3.up, links_3.right, links_3.left);
 }
 
-/* The smaller of the two side differences, which is below 0 exactly if the size does not fit.
- * crates/atlas_search/src/choice.rt
- */
-SMALL uint32_t atlas_search_choice_margin_in(atlas_model_Rectangle rectangle, atlas_model_Size size) {
-    uint32_t n_3;
-    uint32_t n_4;
-    uint32_t n_6;
-    n_3 = atlas_search_choice_spare(rectangle.min_.x, rectangle.max_.x, size.width);
-    n_4 = atlas_search_choice_spare(rectangle.min_.y, rectangle.max_.y, size.height);
-    if ((int32_t)n_3 < (int32_t)n_4) {
-        n_6 = n_3;
-    } else {
-        n_6 = n_4;
-    }
-    return n_6;
-}
-
 /* The rank of a box with this least margin.
  * crates/atlas_search/src/best.rt
  */
@@ -54324,13 +54484,6 @@ SMALL Result_ptr std_heap_GlobalAllocator_grow_Option_Placed(const void *self, v
         result_13 = new_Result_ptr_Err();
     }
     return result_13;
-}
-
-/* What a side leaves of a stretch, which is below 0 exactly if it does not fit.
- * crates/atlas_search/src/choice.rt
- */
-SMALL uint32_t atlas_search_choice_spare(uint32_t from, uint32_t to, uint32_t side) {
-    return (to - from) - side;
 }
 
 /* core/src/slice/sort/small.rt */
