@@ -1,7 +1,7 @@
 -- Lists of several sizes: a heap of entries of one size, or one whose top is a fork, with one half of the sizes to its left and
 -- the other to its right. No public clause cites this module.
-use Rattle.std.specs.Prelude.{ℕ, ◌+◌, ◌-◌, ◌*◌, ◌/◌, ◌≡◌, ◌<◌, ◌≤◌, ◌⊎◌, ◌&&◌, ◌||◌, Bool, true, false, List, min}
-use Rattle.std.specs.Prelude.{nat_lt, if◌then◌else◌}
+use Rattle.std.specs.Prelude.{ℕ, ◌+◌, ◌-◌, ◌*◌, ◌/◌, ◌≡◌, ◌<◌, ◌≤◌, ◌==◌, ◌⊎◌, ◌&&◌, ◌||◌, Bool, true, false, List, min}
+use Rattle.std.specs.Prelude.{nat_lt, not, if◌then◌else◌}
 use Rattle.atlas_search.specs.declared.cells.Cell.{Cell}
 use Rattle.atlas_model.specs.Boxes.{Sides}
 use Rattle.atlas_search.specs.Heaps.{Heap, IsHeap, members, tag_of}
@@ -55,10 +55,10 @@ IsSplit c = (1 < c.right - c.left) ⊎ (1 < c.bottom - c.top)
 abbrev pub middle : (first end : ℕ) → ℕ
 middle first end = min (first + (end - first) / 2) (2 * first)
 
--- Whether a cell is divided by width: the shorter side that has more than one value is.
+-- Whether a cell is divided by width: a side that has two values is divided first, and else the longer one.
 unfoldable pub is_cut_wide : Cell → Bool
 is_cut_wide c =
-    nat_lt 1 (c.right - c.left) && (nat_lt (c.right - c.left) (c.bottom - c.top + 1) || nat_lt (c.bottom - c.top) 2)
+    (c.right - c.left == 2) || (nat_lt (c.bottom - c.top) (c.right - c.left + 1) && not (c.bottom - c.top == 2))
 
 -- The halves of a cell that is divided by width, or by height.
 abbrev pub low_by : Bool → Cell → Cell

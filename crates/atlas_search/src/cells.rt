@@ -124,13 +124,11 @@ impl Cell {
     {
         let wide = self.right - self.left;
         let tall = self.bottom - self.top;
-        if wide <= 1 {
-            return false;
+        if wide <= tall {
+            wide == 2 || wide == tall
+        } else {
+            tall != 2
         }
-        if wide < tall + 1 {
-            return true;
-        }
-        tall < 2
     }
 
     /// The halves of a cell of more than one size.

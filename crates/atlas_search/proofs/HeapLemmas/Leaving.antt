@@ -32,7 +32,7 @@ middle-end first end more = omega (arith, more)
 
 low-of : (b : Bool) (c : Cell) (s : Sides) → is_cut_wide c ≡ b → IsSplit c → IsIn s (low_by b c) → IsIn s c
 low-of true c s e split h =
-    record { left = h.left; right = omega (arith, h.right, middle-end c.left c.right (cut-wide c e)); top = h.top; bottom = h.bottom }
+    record { left = h.left; right = omega (arith, h.right, middle-end c.left c.right (cut-wide c e split)); top = h.top; bottom = h.bottom }
 low-of false c s e split h =
     record { left = h.left; right = h.right; top = h.top; bottom = omega (arith, h.bottom, middle-end c.top c.bottom (cut-high c e split)) }
 

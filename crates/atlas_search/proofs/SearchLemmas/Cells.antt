@@ -1,6 +1,6 @@
 -- Cells and their halves.
 use Rattle.std.proofs.Common.{◌≡◌, ◌≢◌, ℕ, ◌+◌, ◌-◌, ◌*◌, ◌/◌, ◌<◌, ◌≤◌, ◌⊎◌, Bool, true, false, refl, inl, inr, arith}
-use Rattle.std.proofs.lemmas.Bool.{ltb-true, ltb-false}
+use Rattle.std.proofs.lemmas.Bool.{eqb-true, eqb-false, ltb-true, ltb-false}
 use Rattle.atlas_search.specs.declared.cells.Cell.{Cell}
 use Rattle.atlas_model.specs.Boxes.{Sides, IsPositive}
 use Rattle.atlas_search.specs.Forks.{IsCell, IsIn, IsSplit, cell_of, end_of, first_of, high, high_by, is_cut_wide, low, low_by, middle}
@@ -22,17 +22,17 @@ middle-most : (first end : ℕ) → first ≤ end → middle first end ≤ end
 middle-most first end l = omega (arith, l)
 
 -- A cell is divided by a side that has more than one value.
-pub cut-wide : (c : Cell) → is_cut_wide c ≡ true → 1 < c.right - c.left
+pub cut-wide : (c : Cell) → is_cut_wide c ≡ true → IsSplit c → 1 < c.right - c.left
 unfolding is_cut_wide
-cut-wide c e = grind (arith, ltb-true)
+cut-wide c e split = grind (arith, ltb-true, eqb-true)
 
 pub cut-high : (c : Cell) → is_cut_wide c ≡ false → IsSplit c → 1 < c.bottom - c.top
 unfolding is_cut_wide
-cut-high c e split = grind (arith, ltb-true, ltb-false)
+cut-high c e split = grind (arith, ltb-false, eqb-true, eqb-false)
 
 low-is_cell : (b : Bool) (c : Cell) → IsCell c → IsSplit c → is_cut_wide c ≡ b → IsCell (low_by b c)
 low-is_cell true c is split e =
-    let more = cut-wide c e in
+    let more = cut-wide c e split in
     record {
       left = is.left;
       right = omega (arith, middle-less c.left c.right is.left more, is.right);
@@ -54,7 +54,7 @@ low-is_cell false c is split e =
 
 high-is_cell : (b : Bool) (c : Cell) → IsCell c → IsSplit c → is_cut_wide c ≡ b → IsCell (high_by b c)
 high-is_cell true c is split e =
-    let more = cut-wide c e in
+    let more = cut-wide c e split in
     record {
       left = omega (arith, middle-more c.left c.right is.left more);
       right = is.right;
@@ -83,8 +83,8 @@ high-cell c is split = high-is_cell (is_cut_wide c) c is split refl
 low-breadth : (b : Bool) (c : Cell) → IsCell c → IsSplit c → is_cut_wide c ≡ b → breadth (low_by b c) < breadth c
 low-breadth true c is split e = omega (
   arith,
-  middle-less c.left c.right is.left (cut-wide c e),
-  middle-more c.left c.right is.left (cut-wide c e),
+  middle-less c.left c.right is.left (cut-wide c e split),
+  middle-more c.left c.right is.left (cut-wide c e split),
 )
 low-breadth false c is split e = omega (
   arith,
@@ -95,8 +95,8 @@ low-breadth false c is split e = omega (
 high-breadth : (b : Bool) (c : Cell) → IsCell c → IsSplit c → is_cut_wide c ≡ b → breadth (high_by b c) < breadth c
 high-breadth true c is split e = omega (
   arith,
-  middle-less c.left c.right is.left (cut-wide c e),
-  middle-more c.left c.right is.left (cut-wide c e),
+  middle-less c.left c.right is.left (cut-wide c e split),
+  middle-more c.left c.right is.left (cut-wide c e split),
 )
 high-breadth false c is split e = omega (
   arith,
@@ -223,12 +223,12 @@ pub step-more : (n : ℕ) → 256 ≤ n → (first_of n ≡ 256) × (end_of n �
 unfolding first_of end_of
 step-more n a = (grind (arith, ltb-true, ltb-false), grind (arith, ltb-true, ltb-false))
 
-pub is-cut-wide : (c : Cell) → 1 < c.right - c.left → (c.right - c.left < c.bottom - c.top + 1) ⊎ (c.bottom - c.top < 2) →
-    is_cut_wide c ≡ true
+pub is-cut-wide : (c : Cell) → (c.right - c.left ≡ 2) ⊎ ((c.bottom - c.top ≢ 2) × (c.bottom - c.top ≤ c.right - c.left))
+    → is_cut_wide c ≡ true
 unfolding is_cut_wide
-is-cut-wide c w t = grind (arith, ltb-false)
+is-cut-wide c w = grind (arith, ltb-false, eqb-true, eqb-false)
 
-pub not-cut-wide : (c : Cell) → (c.right - c.left ≤ 1) ⊎ ((c.bottom - c.top + 1 ≤ c.right - c.left) × (2 ≤ c.bottom - c.top)) →
-    is_cut_wide c ≡ false
+pub not-cut-wide : (c : Cell) → c.right - c.left ≢ 2 → (c.bottom - c.top ≡ 2) ⊎ (c.right - c.left < c.bottom - c.top)
+    → is_cut_wide c ≡ false
 unfolding is_cut_wide
-not-cut-wide c narrow = grind (arith, ltb-true)
+not-cut-wide c n narrow = grind (arith, ltb-true, eqb-true, eqb-false)

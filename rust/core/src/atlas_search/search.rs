@@ -45,10 +45,11 @@ fn show_entry<E: Entry>(entry: &E, at: Link, best: &mut Best) -> bool {
     entry.is_fork()
 }
 
-// Shows the entries of a heap with this top and of sizes of a cell to a search, but for those that can't be the best.
+// Shows the entries of a heap with this top and of sizes of a cell to a search, but for those that can't be the best. Of its halves
+// only those are entered that may have a better one.
 #[inline]
-fn show<E: Entry>(entries: &[E], at: Link, cell: Cell, best: &mut Best) {
-    if at.number as usize >= entries.len() || !best.may_be_in(cell) {
+fn show_within<E: Entry>(entries: &[E], at: Link, cell: Cell, best: &mut Best) {
+    if at.number as usize >= entries.len() {
         return;
     }
     let entry = &entries[at.number as usize];
@@ -56,8 +57,20 @@ fn show<E: Entry>(entries: &[E], at: Link, cell: Cell, best: &mut Best) {
         return;
     }
     let halves = cell.halves();
-    show(entries, entry.left(), halves.low, best);
-    show(entries, entry.right(), halves.high, best);
+    if best.may_be_in(halves.low) {
+        show_within(entries, entry.left(), halves.low, best);
+    }
+    if best.may_be_in(halves.high) {
+        show_within(entries, entry.right(), halves.high, best);
+    }
+}
+
+// The same, where the cell may have no better one. Most halves of lists have none, so that this is a call of its own.
+#[inline(never)]
+fn show<E: Entry>(entries: &[E], at: Link, cell: Cell, best: &mut Best) {
+    if best.may_be_in(cell) {
+        show_within(entries, at, cell, best);
+    }
 }
 
 // Shows a list that begins with this to a search. Where it is of larger sizes alone, it may be enough to look at its first entry.

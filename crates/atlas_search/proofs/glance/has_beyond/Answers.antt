@@ -1,1 +1,0 @@
-use Rattle.atlas_search.proofs.glance.has_beyond.Goals as goal

@@ -2,7 +2,6 @@ use Rattle.std.proofs.Common.{◌+◌, ◌∙◌, inl, inr, sym, arith}
 use Rattle.std.proofs.lemmas.Bool.{cases_lt, true≢false}
 use Rattle.atlas_model.specs.Boxes.{box_sides}
 use Rattle.atlas_model.specs.Pixels.{options_of}
-use Rattle.atlas_search.specs.Lookups.{AreNear}
 use Rattle.atlas_search.proofs.SearchLemmas.BandLaws.{band_mono}
 use Rattle.atlas_search.proofs.SearchLemmas.NearColumns.{all-near}
 use Rattle.atlas_search.proofs.SearchLemmas.SearchesBefore.{below-marked, marked-below}

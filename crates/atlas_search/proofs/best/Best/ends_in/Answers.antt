@@ -1,4 +1,4 @@
-use Rattle.std.proofs.Common.{ap, sym, ◌∙◌, arith}
+use Rattle.std.proofs.Common.{ap, arith}
 use Rattle.atlas_model.specs.Boxes.{Sides}
 use Rattle.atlas_search.proofs.SearchLemmas.Bests.{asked, seen-later}
 use Rattle.atlas_search.proofs.SearchLemmas.Heaps.{corner-first, first-then}
