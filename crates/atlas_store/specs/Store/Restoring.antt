@@ -26,8 +26,8 @@ next_of k s = s.next
 abbrev pub image_node : Slot → Node
 image_node s = record (node_of s) { next = next_of s.kind s }
 
-abbrev pub no_link : Link
-no_link = record { number = no_slot }
+abbrev pub link_to_none : Link
+link_to_none = record { number = no_slot }
 
 -- A slot of such a node, in no list of free slots.
 abbrev pub made_slot : Node → Slot
@@ -37,8 +37,8 @@ made_slot n =
       previous = n.previous;
       next = n.next;
       area = n.area;
-      up = no_link;
-      left = no_link;
+      up = link_to_none;
+      left = link_to_none;
       right = n.next;
       kind = n.kind;
       axis = n.axis;
