@@ -15,13 +15,13 @@ use Rattle.atlas_store.specs.Slots.{node_at, use_count}
 use Rattle.atlas_store.specs.Slots.Growing.{top_along}
 use Rattle.atlas_store.specs.Slots.Numbered.{Numbered, erase, first_slot}
 use Rattle.atlas_store.specs.Slots.Standing.{Stands}
-use Rattle.atlas_image.specs.Members.{IsMember, IsSettled, IsUsed}
+use Rattle.atlas_image.specs.Members.{IsMember, IsNormalAndAligned, IsUsed}
 
 -- Each used slot agrees with its neighbours.
 pub record AreMembers {A : Type 0} (ns : List Node) (o : Order A) (size : Size) (options : AllocatorOptions) : Type 0
   where
     pub members : (i : ℕ) → IsUsed (node_at ns i) → IsMember ns o size i (node_at ns i)
-    pub settled : (i : ℕ) → IsUsed (node_at ns i) → IsSettled ns options (node_at ns i)
+    pub settled : (i : ℕ) → IsUsed (node_at ns i) → IsNormalAndAligned ns options (node_at ns i)
 
 -- How many of the first m slots are used.
 abbrev pub used_below : List Node → (m : ℕ) → ℕ
@@ -29,7 +29,7 @@ used_below ns zero = 0
 used_below ns (suc m) = use_count (node_at ns m).kind + used_below ns m
 
 -- The nodes stand for the tree n of an atlas of this size, whose first member is that of slot `start`.
-pub record IsTreeOf (ns : List Node) (size : Sides) (options : AllocatorOptions) (start : ℕ) (n : Numbered) : Type 0
+pub record IsTreeOfNodes (ns : List Node) (size : Sides) (options : AllocatorOptions) (start : ℕ) (n : Numbered) : Type 0
   where
     pub axis : Axis
     pub stands : Stands ns (top_along axis (side (other axis) size)) n
@@ -43,5 +43,5 @@ pub record IsTreeOf (ns : List Node) (size : Sides) (options : AllocatorOptions)
 -- The nodes are those of an atlas, and the list of the unused ones begins at this one.
 pub record AreImaged (ns : List Node) (unused : Link) (size : Size) (options : AllocatorOptions) (first : Link)
     : Type 0 where
-  pub tree : (n : Numbered) × IsTreeOf ns (sides_of size) options first.number n
+  pub tree : (n : Numbered) × IsTreeOfNodes ns (sides_of size) options first.number n
   pub line : (xs : List ℕ) × IsUnusedLine ns unused.number xs

@@ -41,8 +41,8 @@ abbrev pub whole_rectangle : Size → Rectangle
 whole_rectangle size = record { min = record { x = pos 0; y = pos 0 }; max = record { x = size.width; y = size.height } }
 
 -- What the sequence of a member divides: the rectangle of its container, or the whole atlas.
-abbrev pub frame_in : List Node → Size → Node → Rectangle
-frame_in ns size n = if n.parent.number == no_slot then whole_rectangle size else (node_at ns n.parent.number).area
+abbrev pub frame_around : List Node → Size → Node → Rectangle
+frame_around ns size n = if n.parent.number == no_slot then whole_rectangle size else (node_at ns n.parent.number).area
 
 abbrev pub IsAcross : Node → Rectangle → Type 0
 IsAcross n frame = span_in (flipped n.axis) n.area ≡ span_in (flipped n.axis) frame
@@ -52,7 +52,7 @@ pub record IsHeldBy (c : Node) (n : Node) : Type 0 where
   pub kind : c.kind ≡ kind.Container
   pub axis : n.axis ≡ flipped c.axis
 
-pub record IsHeld {A : Type 0} (ns : List Node) (o : Order A) (n : Node) : Type 0 where
+pub record IsTopOrHeld {A : Type 0} (ns : List Node) (o : Order A) (n : Node) : Type 0 where
   pub top : n.parent.number ≡ no_slot → n.axis ≡ (node_at ns o.top.number).axis
   pub nested : n.parent.number ≢ no_slot → IsHeldBy (node_at ns n.parent.number) n
 
@@ -71,7 +71,7 @@ pub record IsAfter (b : Node) (i : ℕ) (n : Node) (before after : ℕ) : Type 0
   pub low : (span_in n.axis n.area).low ≡ (span_in n.axis b.area).high
   pub rank : before < after
 
-pub record IsBegun {A : Type 0} (ns : List Node) (o : Order A) (i : ℕ) (n : Node) (frame : Rectangle) : Type 0 where
+pub record IsFirstOrAfter {A : Type 0} (ns : List Node) (o : Order A) (i : ℕ) (n : Node) (frame : Rectangle) : Type 0 where
   pub first : n.previous.number ≡ no_slot → IsFirst o i n frame
   pub after : n.previous.number ≢ no_slot
       → IsAfter (node_at ns n.previous.number) i n (rank_in o n.previous.number) (rank_in o i)
@@ -91,17 +91,17 @@ pub record IsFirstOf (n : Node) (i : ℕ) : Type 0 where
   pub parent : n.parent.number ≡ i
   pub previous : n.previous.number ≡ no_slot
 
-abbrev pub IsFilled : {A : Type 0} → List Node → Order A → (i : ℕ) → Node → Type 0
-IsFilled ns o i n = n.kind ≡ kind.Container → IsFirstOf (node_at ns (first_in o i).number) i
+abbrev pub IsLeafOrFilled : {A : Type 0} → List Node → Order A → (i : ℕ) → Node → Type 0
+IsLeafOrFilled ns o i n = n.kind ≡ kind.Container → IsFirstOf (node_at ns (first_in o i).number) i
 
 -- All that a used slot says of its place agrees with its neighbours.
 pub record IsMember {A : Type 0} (ns : List Node) (o : Order A) (size : Size) (i : ℕ) (n : Node) : Type 0 where
   pub solid : IsSolid n.area
-  pub across : IsAcross n (frame_in ns size n)
-  pub held : IsHeld ns o n
-  pub begun : IsBegun ns o i n (frame_in ns size n)
-  pub ended : IsEnded ns i n (frame_in ns size n)
-  pub filled : IsFilled ns o i n
+  pub across : IsAcross n (frame_around ns size n)
+  pub held : IsTopOrHeld ns o n
+  pub begun : IsFirstOrAfter ns o i n (frame_around ns size n)
+  pub ended : IsEnded ns i n (frame_around ns size n)
+  pub filled : IsLeafOrFilled ns o i n
 
 -- No free member follows a free one, and that isn't alone in a container.
 pub record IsSettledLeaf (ns : List Node) (n : Node) : Type 0 where
@@ -109,6 +109,6 @@ pub record IsSettledLeaf (ns : List Node) (n : Node) : Type 0 where
   pub nested : n.previous.number ≡ no_slot → n.next.number ≡ no_slot → n.parent.number ≡ no_slot
 
 -- A used slot is one of a normal tree, and aligned where it is granted.
-pub record IsSettled (ns : List Node) (o : AllocatorOptions) (n : Node) : Type 0 where
+pub record IsNormalAndAligned (ns : List Node) (o : AllocatorOptions) (n : Node) : Type 0 where
   pub free : n.kind ≡ kind.Free → IsSettledLeaf ns n
   pub granted : n.kind ≡ kind.Alloc → IsAligned (options_of o) (box_sides (box_of n.area))

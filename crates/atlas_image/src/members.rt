@@ -1,8 +1,8 @@
 //! Checks of one used slot by its neighbours: its container, the member before it, and the one after it.
 ghost use Rattle.std.specs.Prelude.{◌≡◌, ◌↔◌, ◌<◌, ◌≤◌, IsTrue, length};
-ghost use Rattle.atlas_image.specs.Members.{frame_in, span_in, rank_in, first_in, IsUsed};
+ghost use Rattle.atlas_image.specs.Members.{frame_around, span_in, rank_in, first_in, IsUsed};
 ghost use Rattle.atlas_image.specs.Members.{IsAfter, IsFirst};
-ghost use Rattle.atlas_image.specs.Members.{IsAcross, IsBegun, IsEnded, IsFilled, IsHeld, IsMember};
+ghost use Rattle.atlas_image.specs.Members.{IsAcross, IsEnded, IsFirstOrAfter, IsLeafOrFilled, IsMember, IsTopOrHeld};
 ghost use Rattle.atlas_search.specs.Numbers.{no_slot};
 ghost use Rattle.atlas_search.specs.Rectangles.{IsSolid};
 ghost use Rattle.atlas_store.specs.Slots.{node_at};
@@ -83,7 +83,7 @@ pub(crate) fn span_of(area: &Rectangle, axis: Orientation) -> Span
 
 /// The rectangle that the sequence of a member divides: that of its container, or the whole atlas.
 pub(crate) fn frame(nodes: &[Node], size: Size, member: &Node) -> Rectangle
-    ensures { result ≡ frame_in nodes.now size member.now }
+    ensures { result ≡ frame_around nodes.now size member.now }
 {
     if member.parent.number == NO_SLOT {
         Rectangle::from(size)
@@ -109,7 +109,7 @@ fn is_across(member: &Node, frame: &Rectangle) -> bool
 
 // Whether a member is in a container that runs along the other axis, or in the top sequence.
 fn is_held<A: Allocator>(nodes: &[Node], order: &Order<A>, member: &Node) -> bool
-    ensures { IsTrue result ↔ IsHeld nodes.now order.now member.now }
+    ensures { IsTrue result ↔ IsTopOrHeld nodes.now order.now member.now }
 {
     if member.parent.number == NO_SLOT {
         member.axis == node(nodes, order.top).axis
@@ -149,7 +149,7 @@ fn is_begun<A: Allocator>(
     member: &Node,
     frame: &Rectangle,
 ) -> bool
-    ensures { IsTrue result ↔ IsBegun nodes.now order.now at.number member.now frame.now }
+    ensures { IsTrue result ↔ IsFirstOrAfter nodes.now order.now at.number member.now frame.now }
 {
     if member.previous.number == NO_SLOT {
         is_first(order, at, member, frame)
@@ -172,7 +172,7 @@ fn is_ended(nodes: &[Node], at: Link, member: &Node, frame: &Rectangle) -> bool
 
 // Whether a member is no container, or has a first member.
 fn is_filled<A: Allocator>(nodes: &[Node], order: &Order<A>, at: Link, member: &Node) -> bool
-    ensures { IsTrue result ↔ IsFilled nodes.now order.now at.number member.now }
+    ensures { IsTrue result ↔ IsLeafOrFilled nodes.now order.now at.number member.now }
 {
     if member.kind != NodeKind::Container {
         return true;

@@ -2,7 +2,7 @@
 ghost use Rattle.std.specs.Prelude.{◌≡◌, ◌≤◌, ◌<◌, ◌+◌, ◌↔◌, [], IsTrue, IfOk, length};
 ghost use Rattle.atlas_model.specs.Trees.{most_slots};
 ghost use Rattle.atlas_image.specs.Members.{rank_in, first_in};
-ghost use Rattle.atlas_image.specs.Ranks.{AreBlank, AreNoted, AreRanked, IsEnqueued, IsNoting, IsOrderOf, IsWalkedTo, LacksRank};
+ghost use Rattle.atlas_image.specs.Ranks.{AreBlank, AreNoted, AreRanked, IsEnqueued, IsNoting, IsOrderOfNodes, IsWalkedTo, LacksRank};
 ghost use Rattle.atlas_image.specs.Ranks.{numbers_in};
 
 use crate::members::{is_container, is_used, node};
@@ -160,7 +160,7 @@ impl<A: Allocator> Order<A> {
     where
         A: Copy,
         requires { length nodes.now ≤ most_slots }
-        ensures { IfOk result (λ order. IsOrderOf nodes.now order) }
+        ensures { IfOk result (λ order. IsOrderOfNodes nodes.now order) }
     {
         let mut order = Order {
             top: Link::NONE,

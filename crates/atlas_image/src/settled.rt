@@ -5,7 +5,7 @@ ghost use Rattle.atlas_model.specs.Choice.{AreValid};
 ghost use Rattle.atlas_model.specs.Pixels.{box_of, options_of};
 ghost use Rattle.atlas_model.specs.States.{IsAligned};
 ghost use Rattle.atlas_search.specs.Rectangles.{IsSolid};
-ghost use Rattle.atlas_image.specs.Members.{IsSettled, IsSettledLeaf};
+ghost use Rattle.atlas_image.specs.Members.{IsNormalAndAligned, IsSettledLeaf};
 
 use crate::members::node;
 use atlas_model::{AllocatorOptions, Rectangle};
@@ -38,7 +38,7 @@ fn is_calm(nodes: &[Node], member: &Node) -> bool
 pub(crate) fn is_settled(nodes: &[Node], options: &AllocatorOptions, member: &Node) -> bool
     requires solid { IsSolid member.now.area }
     requires valid { AreValid (options_of options.now) }
-    ensures { IsTrue result ↔ IsSettled nodes.now options.now member.now }
+    ensures { IsTrue result ↔ IsNormalAndAligned nodes.now options.now member.now }
 {
     match member.kind {
         NodeKind::Free => is_calm(nodes, member),

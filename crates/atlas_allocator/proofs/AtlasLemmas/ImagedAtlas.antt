@@ -2,7 +2,7 @@
 use Rattle.std.proofs.Common.{ℕ, ◌<◌, ◌≤◌, ◌≡◌, ◌^◌, List, [], ◌∷◌, refl, sym, ap, ◌∙◌, arith, length, map, subst, zero, suc}
 use Rattle.std.proofs.lemmas.List.{length-map}
 use Rattle.atlas_allocator.specs.Images.{image_of, state_in}
-use Rattle.atlas_image.specs.Imaged.{AreImaged, IsTreeOf, used_below}
+use Rattle.atlas_image.specs.Imaged.{AreImaged, IsTreeOfNodes, used_below}
 use Rattle.atlas_image.proofs.ImageLemmas.AlignedGrants.{AreAligned, aligned-Standing, ids-apart}
 use Rattle.atlas_image.proofs.ImageLemmas.Joints.{used-numbers}
 use Rattle.atlas_model.specs.declared.geometry.Size.{Size}
@@ -53,7 +53,7 @@ abbrev pub whole_in : Axis → Sides → Sequence
 whole_in a size = top_along a (side (other a) size)
 
 module _ (ns : List Node) (size : Sides) (options : AllocatorOptions) (first : ℕ) (n : Numbered)
-    (t : IsTreeOf ns size options first n) (positive : IsPositive size) where
+    (t : IsTreeOfNodes ns size options first n) (positive : IsPositive size) where
   abbrev s : Sequence
   s = whole_in t.axis size
 
@@ -101,7 +101,7 @@ module _ (ns : List Node) (size : Sides) (options : AllocatorOptions) (first : �
 
 -- A store of such nodes is that of an atlas.
 pub record IsMadeOf (v : Stored) (ns : List Node) (n : Numbered) : Type 0 where
-  pub tree : IsTreeOf ns (sides_of v.size) v.shelf.options v.first.number n
+  pub tree : IsTreeOfNodes ns (sides_of v.size) v.shelf.options v.first.number n
   pub nodes : nodes v.shelf.slots ≡ ns
   pub holding : (h : Holding) × Holds v.shelf h × IsDetachedOnly [] h
       × (h.sequence ≡ whole_in tree.axis (sides_of v.size)) × (h.tree ≡ n)
@@ -186,7 +186,7 @@ image-state v a = rw (image-tree v.stored a, length-map v.stored.shelf.slots ima
 module _ (ns : List Node) (unused : Link) (size : Size) (options : AllocatorOptions) (first : Link)
     (h : AreImaged ns unused size options first) (positive : IsPositive (sides_of size))
     (w : natural size.width < 2 ^ 31) (t : natural size.height < 2 ^ 31) where
-  abbrev tree : IsTreeOf ns (sides_of size) options first.number h.tree.0
+  abbrev tree : IsTreeOfNodes ns (sides_of size) options first.number h.tree.0
   tree = h.tree.1
 
   abbrev whole : StandWhole ns (whole_in tree.axis (sides_of size)) h.tree.0
@@ -207,7 +207,7 @@ module _ (ns : List Node) (unused : Link) (size : Size) (options : AllocatorOpti
       → IsAtlas (record { shelf = shelf_of it; first = first; used = used; size = size; limit = limit })
   restored-atlas it limit used r u less most =
       imaged-atlas _ ns h.tree.0 (record {
-        tree = subst (λ o. IsTreeOf ns (sides_of size) o first.number h.tree.0) (sym r.options) tree;
+        tree = subst (λ o. IsTreeOfNodes ns (sides_of size) o first.number h.tree.0) (sym r.options) tree;
         nodes = r.nodes;
         holding = r.holds (whole_in tree.axis (sides_of size)) h.tree.0 whole;
         used = u;

@@ -7,7 +7,7 @@ use Rattle.std.proofs.lemmas.List.{length-map}
 use Rattle.std.proofs.lemmas.List.Elements.{All-cons, All-head, All-nil, All-tail}
 use Rattle.atlas_allocator.specs.Images.{Image, IsImage}
 use Rattle.atlas_allocator.proofs.AtlasLemmas.ImagedAtlas.{image-stands, kinds-at, whole_in}
-use Rattle.atlas_image.specs.Imaged.{AreImaged, IsTreeOf}
+use Rattle.atlas_image.specs.Imaged.{AreImaged, IsTreeOfNodes}
 use Rattle.atlas_image.proofs.ImageLemmas.AlignedGrants.{AreAligned}
 use Rattle.atlas_model.specs.Boxes.{Axis, IsPositive, box_sides, other, side}
 use Rattle.atlas_model.specs.Choice.{AreValid, Options}
@@ -155,7 +155,7 @@ module _ (v : Stored) (a : IsAtlas v) where
     kept = length v.shelf.slots;
   })) (tree_of-IsAtlas v a) a.sound
 
-  tree : IsTreeOf ns (sides_of v.size) v.shelf.options v.first.number n
+  tree : IsTreeOfNodes ns (sides_of v.size) v.shelf.options v.first.number n
   tree = record {
     axis = axis;
     stands = stands;

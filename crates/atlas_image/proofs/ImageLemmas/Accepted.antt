@@ -1,8 +1,8 @@
 -- The checks accept the nodes of a tree, where its first members are noted and ranks rise.
 use Rattle.std.proofs.Common.{ℕ, pos, ◌+◌, ◌<◌, ◌≡◌, ◌≢◌, List, refl, sym, ap, ◌∙◌, arith, subst, length}
 use Rattle.atlas_image.specs.declared.order.Order.{Order}
-use Rattle.atlas_image.specs.Imaged.{AreMembers, IsTreeOf}
-use Rattle.atlas_image.specs.Members.{IsAfter, IsFirst, IsFirstOf, IsMember, IsSettled, IsUsed, first_in, frame_in}
+use Rattle.atlas_image.specs.Imaged.{AreMembers, IsTreeOfNodes}
+use Rattle.atlas_image.specs.Members.{IsAfter, IsFirst, IsFirstOf, IsMember, IsNormalAndAligned, IsUsed, first_in, frame_around}
 use Rattle.atlas_image.specs.Members.{rank_in, whole_rectangle}
 use Rattle.atlas_image.proofs.ImageLemmas.GrownOnce.{RanksFall, before-after, before-first}
 use Rattle.atlas_image.proofs.ImageLemmas.OneFirst.{first-once}
@@ -65,7 +65,7 @@ nonempty_total End l = absurd (omega arith)
 nonempty_total n l = omega (arith, same-self)
 
 module _ (ns : List Node) (size : Size) (options : AllocatorOptions) (begin : ℕ) (n : Numbered)
-    (t : IsTreeOf ns (sides_of size) options begin n) (positive : IsPositive (sides_of size)) (short : length ns < no_slot)
+    (t : IsTreeOfNodes ns (sides_of size) options begin n) (positive : IsPositive (sides_of size)) (short : length ns < no_slot)
   where
     abbrev s : Sequence
     s = top_along t.axis (side (other t.axis) (sides_of size))
@@ -111,7 +111,7 @@ module _ (ns : List Node) (size : Size) (options : AllocatorOptions) (begin : �
     placed i u = placed-all ns size begin s 0 (side t.axis (sides_of size)) no_slot 0 n start t.stands.standing t.cut
         wide no_tally i (omega (arith, t.stands.numbered i, u))
 
-    settled : (i : ℕ) → IsUsed (node_at ns i) → IsSettled ns options (node_at ns i)
+    settled : (i : ℕ) → IsUsed (node_at ns i) → IsNormalAndAligned ns options (node_at ns i)
     settled i u =
         let calm = calm-Stands ns s n short refl t.stands t.normal i in
         record {
@@ -137,7 +137,7 @@ module _ (ns : List Node) (size : Size) (options : AllocatorOptions) (begin : �
           let e = before-after m p in
           subst (λ v. rank_in o v < rank_in o i) e (fits.ranks i u (λ z. p (sym e ∙ z)))
 
-      first : m.previous.number ≡ no_slot → IsFirst o i m (frame_in ns size m)
+      first : m.previous.number ≡ no_slot → IsFirst o i m (frame_around ns size m)
       first p = record {
         low = at.low p;
         first = first-once ns s n refl t.stands none m.parent.number (first_in o m.parent.number).number i (fits.firsts i u p)
@@ -176,7 +176,7 @@ module _ (ns : List Node) (size : Size) (options : AllocatorOptions) (begin : �
 
 -- What comes of a tree, in all.
 module _ {A : Type 0} (ns : List Node) (o : Order A) (size : Size) (options : AllocatorOptions) (begin : ℕ) (n : Numbered)
-    (t : IsTreeOf ns (sides_of size) options begin n) (positive : IsPositive (sides_of size)) (short : length ns < no_slot)
+    (t : IsTreeOfNodes ns (sides_of size) options begin n) (positive : IsPositive (sides_of size)) (short : length ns < no_slot)
   where
     pub tree-begins : IsFirstOf (node_at ns (first_slot n)) no_slot
     tree-begins = begins ns size options begin n t positive short

@@ -1,9 +1,9 @@
 -- Nodes that stand for a tree pass the checks.
 use Rattle.std.proofs.Common.{ℕ, ◌<◌, List, refl, sym, subst, length, ◌∙◌}
 use Rattle.atlas_image.specs.declared.order.Order.{Order}
-use Rattle.atlas_image.specs.Imaged.{AreMembers, IsTreeOf}
+use Rattle.atlas_image.specs.Imaged.{AreMembers, IsTreeOfNodes}
 use Rattle.atlas_image.specs.Members.{IsFirstOf}
-use Rattle.atlas_image.specs.Ranks.{IsOrderOf}
+use Rattle.atlas_image.specs.Ranks.{IsOrderOfNodes}
 use Rattle.atlas_image.proofs.ImageLemmas.Accepted.{OrderFits, members-accepted, tree-begins, tree-placed}
 use Rattle.atlas_image.proofs.ImageLemmas.OrderFitted.{led-on, order-fits}
 use Rattle.atlas_model.specs.declared.geometry.Size.{Size}
@@ -18,7 +18,7 @@ use Rattle.atlas_store.specs.Slots.Numbered.{Numbered}
 use Rattle.atlas_store.proofs.SlotLemmas.JoinWrites.{none-unused}
 
 module _ {A : Type 0} (ns : List Node) (o : Order A) (size : Size) (options : AllocatorOptions) (begin : ℕ) (n : Numbered)
-    (t : IsTreeOf ns (sides_of size) options begin n) (order : IsOrderOf ns o) (positive : IsPositive (sides_of size))
+    (t : IsTreeOfNodes ns (sides_of size) options begin n) (order : IsOrderOfNodes ns o) (positive : IsPositive (sides_of size))
     (short : length ns < no_slot) where
   fits : OrderFits ns o begin
   fits =

@@ -1,7 +1,7 @@
 -- What leads from the first member on leads to each member of a tree.
 use Rattle.std.proofs.Common.{ℕ, ◌+◌, ◌<◌, ◌≤◌, ◌≡◌, ◌≢◌, List, sym, inl, inr, arith, subst}
 use Rattle.std.proofs.lemmas.Bool.{cases_eq, cases_lt}
-use Rattle.atlas_image.specs.Ranks.{LeadsTo}
+use Rattle.atlas_image.specs.Ranks.{LeadsToSlot}
 use Rattle.atlas_search.specs.Numbers.{no_slot}
 use Rattle.atlas_store.specs.declared.slots.Node.{Node}
 use Rattle.atlas_store.specs.Slots.Numbered.{Numbered, first_slot, tally, End, Free, Alloc, Seq}
@@ -11,7 +11,7 @@ use Rattle.atlas_store.proofs.SlotLemmas.Frames.{same-self, same-ne, ne-from_sam
 module _ (ns : List Node) (d : ℕ → ℕ) (P : ℕ → Type 0) (all : Numbered)
     (firsts : (i p e : ℕ) (t : Sequence) (inner : Numbered) → Standing ns (inside t i p e) no_slot t.start inner
     → 0 < tally i all → first_slot inner ≢ no_slot → d i ≡ first_slot inner)
-    (closed : (a x : ℕ) → 0 < tally a all → P a → LeadsTo ns d a x → x ≢ no_slot → P x) where
+    (closed : (a x : ℕ) → 0 < tally a all → P a → LeadsToSlot ns d a x → x ≢ no_slot → P x) where
   pub covered : (s : Sequence) (b p : ℕ) (m : Numbered) → ((x : ℕ) → tally x m ≤ tally x all) → tally no_slot all ≡ 0
       → Standing ns s b p m → (first_slot m ≢ no_slot → P (first_slot m)) → (x : ℕ) → 0 < tally x m → P x
   covered s b p End less none h first x l = absurd (omega arith)

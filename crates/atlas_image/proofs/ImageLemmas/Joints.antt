@@ -5,8 +5,9 @@ use Rattle.std.proofs.lemmas.List.{get_or_past}
 use Rattle.std.proofs.lemmas.List.Sums.{get_or-le-sum_by}
 use Rattle.atlas_image.specs.declared.members.Span.{Span}
 use Rattle.atlas_image.specs.declared.order.Order.{Order}
-use Rattle.atlas_image.specs.Imaged.{AreMembers, IsTreeOf, used_below}
-use Rattle.atlas_image.specs.Members.{IsAfter, IsHeldBy, IsMember, IsSettled, IsUsed, first_in, frame_in, rank_in, span_in, whole_rectangle}
+use Rattle.atlas_image.specs.Imaged.{AreMembers, IsTreeOfNodes, used_below}
+use Rattle.atlas_image.specs.Members.{IsAfter, IsHeldBy, IsMember, IsNormalAndAligned, IsUsed}
+use Rattle.atlas_image.specs.Members.{first_in, frame_around, rank_in, span_in, whole_rectangle}
 use Rattle.atlas_image.proofs.ImageLemmas.Spans.{
   across-end,
   area-is,
@@ -89,7 +90,7 @@ module _ {A : Type 0} (ns : List Node) (o : Order A) (size : Size) (options : Al
   d i = (first_in o i).number
 
   abbrev frame : Node → Rectangle
-  frame n = frame_in ns size n
+  frame n = frame_around ns size n
 
   -- Where the sequence of a member ends.
   abbrev ends : Node → ℕ
@@ -254,7 +255,7 @@ module _ {A : Type 0} (ns : List Node) (o : Order A) (size : Size) (options : Al
         record { apart = λ f g. (h.free f).apart g; nested = λ f. (h.free f).nested }
 
     -- So the nodes are those of a tree of this size.
-    pub imaged-tree : IsTreeOf ns (sides_of size) options o.top.number whole
+    pub imaged-tree : IsTreeOfNodes ns (sides_of size) options o.top.number whole
     imaged-tree =
         record {
           axis = axis_of t.axis;
@@ -274,13 +275,13 @@ module _ {A : Type 0} (ns : List Node) (o : Order A) (size : Size) (options : Al
           aligned = λ i k. (all.settled i (rw k (omega arith))).granted k;
         }
 
-    pub imaged : (n : Numbered) × IsTreeOf ns (sides_of size) options o.top.number n
+    pub imaged : (n : Numbered) × IsTreeOfNodes ns (sides_of size) options o.top.number n
     imaged = (whole, imaged-tree)
 
 -- What holds of each used slot below the end holds of each.
 pub members-all : {A : Type 0} (ns : List Node) (o : Order A) (size : Size) (options : AllocatorOptions)
     → ((i : ℕ) → i < length ns → IsUsed (node_at ns i) → IsMember ns o size i (node_at ns i))
-    → ((i : ℕ) → i < length ns → IsUsed (node_at ns i) → IsSettled ns options (node_at ns i))
+    → ((i : ℕ) → i < length ns → IsUsed (node_at ns i) → IsNormalAndAligned ns options (node_at ns i))
     → AreMembers ns o size options
 members-all ns o size options f g =
     record { members = λ i u. f i (used-inside ns i u) u; settled = λ i u. g i (used-inside ns i u) u }

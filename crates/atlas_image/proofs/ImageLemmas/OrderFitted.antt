@@ -3,7 +3,7 @@ use Rattle.std.proofs.Common.{ℕ, ◌<◌, ◌≡◌, ◌≢◌, ◌⊎◌, Lis
 use Rattle.std.proofs.lemmas.Bool.{cases_eq}
 use Rattle.atlas_image.specs.declared.order.Order.{Order}
 use Rattle.atlas_image.specs.Members.{IsFirstOf, IsUsed, first_in, rank_in}
-use Rattle.atlas_image.specs.Ranks.{IsOrderOf, IsRanked, LeadsTo, firsts_of}
+use Rattle.atlas_image.specs.Ranks.{HasRank, IsOrderOfNodes, LeadsToSlot, firsts_of}
 use Rattle.atlas_image.proofs.ImageLemmas.Accepted.{OrderFits}
 use Rattle.atlas_image.proofs.ImageLemmas.Covered.{covered}
 use Rattle.atlas_image.proofs.ImageLemmas.GrownOnce.{RanksFall, before, before-after, before-first}
@@ -50,7 +50,7 @@ led-on ns size top i p = record {
 }
 
 module _ {A : Type 0} (ns : List Node) (o : Order A) (s : Sequence) (n : Numbered) (stands : Stands ns s n)
-    (whole : s.parent ≡ no_slot) (none : (node_at ns no_slot).kind ≡ kind.Unused) (order : IsOrderOf ns o)
+    (whole : s.parent ≡ no_slot) (none : (node_at ns no_slot).kind ≡ kind.Unused) (order : IsOrderOfNodes ns o)
     (begins : IsFirstOf (node_at ns (first_slot n)) no_slot) (short : length ns < no_slot)
     (on : (i : ℕ) → IsUsed (node_at ns i) → IsLedOn ns i) where
   abbrev d : ℕ → ℕ
@@ -90,14 +90,14 @@ module _ {A : Type 0} (ns : List Node) (o : Order A) (s : Sequence) (n : Numbere
   top_used = subst (λ v. IsUsed (node_at ns v)) (sym top_is) begins.used
 
   -- What a used slot leads to is used, and comes after it.
-  leads_used : (a x : ℕ) → IsUsed (node_at ns a) → LeadsTo ns d a x → x ≢ no_slot → IsUsed (node_at ns x)
+  leads_used : (a x : ℕ) → IsUsed (node_at ns a) → LeadsToSlot ns d a x → x ≢ no_slot → IsUsed (node_at ns x)
   leads_used a x u (inl e) ne =
       subst (λ v. IsUsed (node_at ns v)) e ((on a u).next (λ z. ne (sym e ∙ z)))
   leads_used a x u (inr h) ne =
       let f = (on a u).first h.0 in
       subst (λ v. IsUsed (node_at ns v)) (sym (first_noted a f.0 f.1) ∙ h.1) f.1.used
 
-  leads_before : (a x : ℕ) → IsUsed (node_at ns a) → LeadsTo ns d a x → x ≢ no_slot → before (node_at ns x) ≡ a
+  leads_before : (a x : ℕ) → IsUsed (node_at ns a) → LeadsToSlot ns d a x → x ≢ no_slot → before (node_at ns x) ≡ a
   leads_before a x u (inl e) ne =
       let back : (node_at ns x).previous.number ≡ a =
       subst (λ v. (node_at ns v).previous.number ≡ a) e ((on a u).back (λ z. ne (sym e ∙ z))) in
@@ -108,7 +108,7 @@ module _ {A : Type 0} (ns : List Node) (o : Order A) (s : Sequence) (n : Numbere
       before-first (node_at ns x) g.previous ∙ g.parent
 
   -- Each slot with a rank is used.
-  ranked_used : (f x : ℕ) → get_or o.ranks.items x 0 < f → IsRanked o.ranks.items x → IsUsed (node_at ns x)
+  ranked_used : (f x : ℕ) → get_or o.ranks.items x 0 < f → HasRank o.ranks.items x → IsUsed (node_at ns x)
   ranked_used zero x l r = absurd (omega arith)
   ranked_used (suc f) x l r = elim (order.ranked.ranking.origin x r) [
     | inl e ↦ subst (λ v. IsUsed (node_at ns v)) (sym e) top_used
@@ -120,21 +120,21 @@ module _ {A : Type 0} (ns : List Node) (o : Order A) (s : Sequence) (n : Numbere
   ]
 
   -- Each member has a rank.
-  all_ranked : (x : ℕ) → IsUsed (node_at ns x) → IsRanked o.ranks.items x
+  all_ranked : (x : ℕ) → IsUsed (node_at ns x) → HasRank o.ranks.items x
   all_ranked x u =
-      covered ns d (IsRanked o.ranks.items) n
+      covered ns d (HasRank o.ranks.items) n
       (λ i p e t inner h l z. first_noted i (first_slot inner) (first_in_standing ns t i p e inner h z))
       (λ a y l r lead ne.
       let used : IsUsed (node_at ns a) = omega (arith, stands.numbered a, l) in
-      led-ranked (LeadsTo ns d) o.top.number order.ranked.queue o.ranks.items order.ranked.seen order.ranked.seen
+      led-ranked (LeadsToSlot ns d) o.top.number order.ranked.queue o.ranks.items order.ranked.seen order.ranked.seen
       order.ranked.ranking order.ranked.all a y r lead (omega (arith, order.ranked.long, held y (leads_used a y used lead ne))))
       s no_slot 0 n (λ y. omega arith) (stands.numbered no_slot ∙ ap use_count none) stands.standing
-      (λ _. subst (IsRanked o.ranks.items) top_is (order.ranked.begun (omega (arith, held o.top.number top_used, order.ranked.long)))) x
+      (λ _. subst (HasRank o.ranks.items) top_is (order.ranked.begun (omega (arith, held o.top.number top_used, order.ranked.long)))) x
       (omega (arith, stands.numbered x, u))
 
   falls : RanksFall ns (rank_in o)
   falls k u nz =
-      rank-falls (LeadsTo ns d) o.top.number order.ranked.queue o.ranks.items order.ranked.seen order.ranked.seen
+      rank-falls (LeadsToSlot ns d) o.top.number order.ranked.queue o.ranks.items order.ranked.seen order.ranked.seen
       order.ranked.ranking order.ranked.all (before (node_at ns k)) k (all_ranked k u)
       (λ e. nz (first_before k (e ∙ top_is)))
       (λ a lead r. sym (leads_before a k (ranked_used (suc (get_or o.ranks.items a 0)) a (omega arith) r) lead (some k u)))

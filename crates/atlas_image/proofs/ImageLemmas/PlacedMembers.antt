@@ -2,7 +2,7 @@
 use Rattle.std.proofs.Common.{ℕ, pos, ◌+◌, ◌<◌, ◌≡◌, ◌≢◌, List, refl, sym, ap, ◌∙◌, inl, inr, arith, subst}
 use Rattle.std.proofs.lemmas.Bool.{cases_eq, cases_lt, ne_eqb}
 use Rattle.atlas_image.specs.declared.members.Span.{Span}
-use Rattle.atlas_image.specs.Members.{IsAcross, IsFirstOf, IsNextOf, IsUsed, frame_in, span_in}
+use Rattle.atlas_image.specs.Members.{IsAcross, IsFirstOf, IsNextOf, IsUsed, frame_around, span_in}
 use Rattle.atlas_model.specs.declared.geometry.Size.{Size}
 use Rattle.atlas_model.specs.Boxes.{Axis, box_at, other, sized}
 use Rattle.atlas_model.specs.Boxes.Axis.{Horizontal, Vertical}
@@ -58,17 +58,17 @@ pub record IsPriorOf (b : Node) (i : ℕ) (n : Node) : Type 0 where
   pub low : (span_in n.axis n.area).low ≡ (span_in n.axis b.area).high
 
 pub record IsPlaced (ns : List Node) (size : Size) (start i : ℕ) : Type 0 where
-  pub across : IsAcross (node_at ns i) (frame_in ns size (node_at ns i))
+  pub across : IsAcross (node_at ns i) (frame_around ns size (node_at ns i))
   pub top : (node_at ns i).parent.number ≡ no_slot → (node_at ns i).axis ≡ (node_at ns start).axis
   pub holder : (node_at ns i).parent.number ≢ no_slot → (node_at ns (node_at ns i).parent.number).kind ≡ kind.Container
   pub nested : (node_at ns i).parent.number ≢ no_slot
       → (node_at ns i).axis ≡ flipped (node_at ns (node_at ns i).parent.number).axis
   pub low : (node_at ns i).previous.number ≡ no_slot → (span_in (node_at ns i).axis (node_at ns i).area).low
-      ≡ (span_in (node_at ns i).axis (frame_in ns size (node_at ns i))).low
+      ≡ (span_in (node_at ns i).axis (frame_around ns size (node_at ns i))).low
   pub after : (node_at ns i).previous.number ≢ no_slot
       → IsPriorOf (node_at ns (node_at ns i).previous.number) i (node_at ns i)
   pub high : (node_at ns i).next.number ≡ no_slot → (span_in (node_at ns i).axis (node_at ns i).area).high
-      ≡ (span_in (node_at ns i).axis (frame_in ns size (node_at ns i))).high
+      ≡ (span_in (node_at ns i).axis (frame_around ns size (node_at ns i))).high
   pub before : (node_at ns i).next.number ≢ no_slot → IsNextOf (node_at ns (node_at ns i).next.number) i
   pub filled : (node_at ns i).kind ≡ kind.Container → (c : ℕ) × IsFirstOf (node_at ns c) i
 
@@ -76,7 +76,7 @@ module _ (ns : List Node) (size : Size) (top : ℕ) where
   -- What is known of the members m from p on, which follow slot b, of a sequence that divides the l pixels from `from` on.
   pub record IsIn (t : Sequence) (from l b p : ℕ) (m : Numbered) : Type 0 where
     pub frame : (x : ℕ) → (node_at ns x).parent.number ≡ t.parent
-        → frame_in ns size (node_at ns x) ≡ rectangle_of (member_box t from l)
+        → frame_around ns size (node_at ns x) ≡ rectangle_of (member_box t from l)
     pub ends : p + total (erase m) ≡ from + l
     pub begins : b ≡ no_slot → p ≡ from
     pub used : b ≢ no_slot → IsUsed (node_at ns b)
@@ -95,13 +95,13 @@ module _ (ns : List Node) (size : Size) (top : ℕ) where
     abbrev n : Node
     n = node_at ns i
 
-    framed : frame_in ns size n ≡ rectangle_of (member_box t from l)
+    framed : frame_around ns size n ≡ rectangle_of (member_box t from l)
     framed = h.frame i link.parent
 
     own_along : (span_in n.axis n.area) ≡ record { low = pos p; high = pos (p + e) }
     own_along = ap (span_in n.axis) place ∙ span_along n.axis t.axis p e t.start t.width link.axis
 
-    frame_along : (span_in n.axis (frame_in ns size n)) ≡ record { low = pos from; high = pos (from + l) }
+    frame_along : (span_in n.axis (frame_around ns size n)) ≡ record { low = pos from; high = pos (from + l) }
     frame_along = ap (span_in n.axis) framed ∙ span_along n.axis t.axis from l t.start t.width link.axis
 
     -- What comes after the member.

@@ -4,17 +4,17 @@ use Rattle.std.proofs.Common.{arith, subst, length, get_or, get_or-set_other, ge
 use Rattle.std.proofs.lemmas.Bool.{cases_eq, cases_lt, eq-eqb, ne_eqb}
 use Rattle.std.proofs.lemmas.List.{get_or_append_left, get_or_push}
 use Rattle.std.proofs.lemmas.List.Sums.{sum_by-set}
-use Rattle.atlas_image.specs.Ranks.{IsAdded, IsRanked, IsRanking, lacks, no_rank, unranked}
+use Rattle.atlas_image.specs.Ranks.{HasRank, IsAdded, IsRanking, blank_rank, lacks, unranked}
 
-pub lacks_none : (r : ℕ) → r ≡ no_rank → lacks r ≡ 1
-lacks_none r e = rw (eq-eqb r no_rank e) refl
+pub lacks_none : (r : ℕ) → r ≡ blank_rank → lacks r ≡ 1
+lacks_none r e = rw (eq-eqb r blank_rank e) refl
 
-pub lacks_some : (r : ℕ) → r ≢ no_rank → lacks r ≡ 0
-lacks_some r ne = rw (ne_eqb r no_rank ne) refl
+pub lacks_some : (r : ℕ) → r ≢ blank_rank → lacks r ≡ 0
+lacks_some r ne = rw (ne_eqb r blank_rank ne) refl
 
 module _ (leads : ℕ → ℕ → Type 0) (top : ℕ) where
   module _ (q q' rs rs' : List ℕ) (led seen x a : ℕ) (h : IsRanking leads top q rs led seen) (add : IsAdded q q' rs rs' x (a + 1))
-      (early : a < seen) (inside : a < length q) (lead : leads (get_or q a 0) x) (small : a + 1 < no_rank) (first : led ≤ a) where
+      (early : a < seen) (inside : a < length q) (lead : leads (get_or q a 0) x) (small : a + 1 < blank_rank) (first : led ≤ a) where
     long : length q' ≡ length q + 1
     long = ap (λ (v : List ℕ). length v) add.queue ∙ length-append q (x ∷ [])
 
@@ -33,19 +33,19 @@ module _ (leads : ℕ → ℕ → Type 0) (top : ℕ) where
     new_rank : get_or rs' x 0 ≡ a + 1
     new_rank = ap (λ v. get_or v x 0) add.ranks ∙ get_or-set_same rs x (a + 1) 0 add.lacked.0
 
-    apart : (y : ℕ) → IsRanked rs y → y ≢ x
+    apart : (y : ℕ) → HasRank rs y → y ≢ x
     apart y r e = r.some (ap (λ v. get_or rs v 0) e ∙ add.lacked.1)
 
-    ranked_new : IsRanked rs' x
+    ranked_new : HasRank rs' x
     ranked_new = record { inside = omega (arith, long_ranks, add.lacked.0); some = λ e. absurd (omega (arith, new_rank, e, small)) }
 
-    pub ranked-still : (y : ℕ) → IsRanked rs y → IsRanked rs' y
+    pub ranked-still : (y : ℕ) → HasRank rs y → HasRank rs' y
     ranked-still y r = record {
       inside = omega (arith, long_ranks, r.inside);
       some = λ e. r.some (sym (old_rank y (apart y r)) ∙ e);
     }
 
-    ranked_before : (y : ℕ) → y ≢ x → IsRanked rs' y → IsRanked rs y
+    ranked_before : (y : ℕ) → y ≢ x → HasRank rs' y → HasRank rs y
     ranked_before y ne r = record {
       inside = omega (arith, long_ranks, r.inside);
       some = λ e. r.some (old_rank y ne ∙ e);
@@ -74,8 +74,8 @@ module _ (leads : ℕ → ℕ → Type 0) (top : ℕ) where
             ]
           ];
           queued = λ j l. elim (cases_lt j (length q)) [
-            | inl m ↦ subst (IsRanked rs') (sym (old_place j m)) (ranked-still (get_or q j 0) (h.queued j m))
-            | inr m ↦ subst (IsRanked rs') (sym (last j l m)) ranked_new
+            | inl m ↦ subst (HasRank rs') (sym (old_place j m)) (ranked-still (get_or q j 0) (h.queued j m))
+            | inr m ↦ subst (HasRank rs') (sym (last j l m)) ranked_new
           ];
           low = λ j l. elim (cases_lt j (length q)) [
             | inl m ↦ omega (
@@ -94,7 +94,7 @@ module _ (leads : ℕ → ℕ → Type 0) (top : ℕ) where
           ];
           done = λ j y d l lead_y m. elim (cases_lt j (length q)) [
             | inl b ↦ elim (cases_eq y x) [
-              | inl e ↦ subst (IsRanked rs') (sym e) ranked_new
+              | inl e ↦ subst (HasRank rs') (sym e) ranked_new
               | inr ne ↦ ranked-still y (h.done j y d b (subst (λ v. leads v y) (old_place j b) lead_y)
                   (omega (arith, long_ranks, m)))
             ]
@@ -117,7 +117,7 @@ module _ (leads : ℕ → ℕ → Type 0) (top : ℕ) where
 
   -- The next place of the queue was looked at.
   pub looked-at : (q rs : List ℕ) (i : ℕ) → IsRanking leads top q rs i (i + 1)
-      → ((x : ℕ) → leads (get_or q i 0) x → x < length rs → IsRanked rs x) → IsRanking leads top q rs (i + 1) (i + 1)
+      → ((x : ℕ) → leads (get_or q i 0) x → x < length rs → HasRank rs x) → IsRanking leads top q rs (i + 1) (i + 1)
   looked-at q rs i h all = record {
     origin = h.origin;
     queued = h.queued;
@@ -145,12 +145,12 @@ module _ (leads : ℕ → ℕ → Type 0) (top : ℕ) where
 
   -- Where all of the queue was looked at, ranks fall from each slot to what leads to it.
   module _ (q rs : List ℕ) (i seen : ℕ) (h : IsRanking leads top q rs i seen) (all : length q ≤ i) where
-    pub led-ranked : (a x : ℕ) → IsRanked rs a → leads a x → x < length rs → IsRanked rs x
+    pub led-ranked : (a x : ℕ) → HasRank rs a → leads a x → x < length rs → HasRank rs x
     led-ranked a x r lead l =
         let f = h.found a r in
         h.done f.0 x (omega (arith, f.1, all)) f.1 (subst (λ v. leads v x) (sym f.2) lead) l
 
-    pub rank-falls : (b x : ℕ) → IsRanked rs x → x ≢ top → ((a : ℕ) → leads a x → IsRanked rs a → a ≡ b)
+    pub rank-falls : (b x : ℕ) → HasRank rs x → x ≢ top → ((a : ℕ) → leads a x → HasRank rs a → a ≡ b)
         → get_or rs b 0 < get_or rs x 0
     rank-falls b x r nt only = elim (h.origin x r) [
       | inl t ↦ absurd (nt t)

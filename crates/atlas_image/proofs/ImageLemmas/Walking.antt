@@ -5,8 +5,8 @@ use Rattle.std.proofs.lemmas.Bool.{cases_eq}
 use Rattle.std.proofs.lemmas.List.{get_or-replicate, get_or_append_left, length-map, length-replicate}
 use Rattle.std.proofs.Math.Seq.{take-nil}
 use Rattle.std.proofs.lemmas.List.Sums.{sum_by-cons, sum_by-set}
-use Rattle.atlas_image.specs.Ranks.{AreBlank, AreRanked, IsAdded, IsEnqueued, IsRanked, IsRanking, IsWalkedTo}
-use Rattle.atlas_image.specs.Ranks.{LeadsTo, firsts_of, lacks, no_rank, numbers_in, unranked}
+use Rattle.atlas_image.specs.Ranks.{AreBlank, AreRanked, HasRank, IsAdded, IsEnqueued, IsRanking, IsWalkedTo}
+use Rattle.atlas_image.specs.Ranks.{LeadsToSlot, blank_rank, firsts_of, lacks, numbers_in, unranked}
 use Rattle.atlas_image.proofs.ImageLemmas.Ranking.{added-keeps, lacks_none, lacks_some, looked-at, looks-on}
 use Rattle.atlas_search.specs.declared.link.Link.{Link}
 use Rattle.atlas_store.specs.declared.slots.Node.{Node}
@@ -15,21 +15,21 @@ use Rattle.atlas_store.specs.Slots.{node_at}
 
 -- What a slot that is put in the queue leaves as it was, and that it has a rank.
 pub record IsLonger (q q' rs rs' : List ℕ) (x : ℕ) : Type 0 where
-  pub still : (y : ℕ) → IsRanked rs y → IsRanked rs' y
+  pub still : (y : ℕ) → HasRank rs y → HasRank rs' y
   pub place : (j : ℕ) → j < length q → get_or q' j 0 ≡ get_or q j 0
   pub more : length q ≤ length q'
   pub long : length rs' ≡ length rs
-  pub ranked : x < length rs' → IsRanked rs' x
+  pub ranked : x < length rs' → HasRank rs' x
 
-pub longer : (q q' rs rs' : List ℕ) (x r : ℕ) → r ≢ no_rank → IsEnqueued q q' rs rs' x r → IsLonger q q' rs rs' x
+pub longer : (q q' rs rs' : List ℕ) (x r : ℕ) → r ≢ blank_rank → IsEnqueued q q' rs rs' x r → IsLonger q q' rs rs' x
 longer q q' rs rs' x r some (inl add) =
     let long : length rs' ≡ length rs = ap (λ (v : List ℕ). length v) add.ranks ∙ length-set rs x r in
     let new : get_or rs' x 0 ≡ r = ap (λ v. get_or v x 0) add.ranks ∙ get_or-set_same rs x r 0 add.lacked.0 in
-    let here : IsRanked rs' x =
+    let here : HasRank rs' x =
     record { inside = omega (arith, long, add.lacked.0); some = λ e. some (sym new ∙ e) } in
     record {
       still = λ y h. elim (cases_eq y x) [
-        | inl e ↦ subst (IsRanked rs') (sym e) here
+        | inl e ↦ subst (HasRank rs') (sym e) here
         | inr ne ↦
             let old : get_or rs' y 0 ≡ get_or rs y 0 = ap (λ v. get_or v y 0) add.ranks ∙ get_or-set_other rs x y r 0 ne in
             record { inside = omega (arith, long, h.inside); some = λ e. h.some (sym old ∙ e) }
@@ -42,17 +42,17 @@ longer q q' rs rs' x r some (inl add) =
 longer q q' rs rs' x r some (inr pass) =
     let long : length rs' ≡ length rs = ap (λ (v : List ℕ). length v) pass.ranks in
     record {
-      still = λ y h. subst (λ v. IsRanked v y) (sym pass.ranks) h;
+      still = λ y h. subst (λ v. HasRank v y) (sym pass.ranks) h;
       place = λ j l. ap (λ v. get_or v j 0) pass.queue;
       more = omega (arith, ap (λ (v : List ℕ). length v) pass.queue);
       long = long;
-      ranked = λ l. subst (λ v. IsRanked v x) (sym pass.ranks)
+      ranked = λ l. subst (λ v. HasRank v x) (sym pass.ranks)
           (record { inside = omega (arith, long, l); some = λ e. pass.had (omega (arith, long, l), e) });
     }
 
 module _ (leads : ℕ → ℕ → Type 0) (top : ℕ) where
   pub enqueued-keeps : (q q' rs rs' : List ℕ) (led seen x a : ℕ) → IsRanking leads top q rs led seen
-      → IsEnqueued q q' rs rs' x (a + 1) → a < seen → a < length q → leads (get_or q a 0) x → a + 1 < no_rank → led ≤ a
+      → IsEnqueued q q' rs rs' x (a + 1) → a < seen → a < length q → leads (get_or q a 0) x → a + 1 < blank_rank → led ≤ a
       → IsRanking leads top q' rs' led seen
   enqueued-keeps q q' rs rs' led seen x a h (inl add) early inside lead small first =
       added-keeps leads top q q' rs rs' led seen x a h add early inside lead small first
@@ -60,17 +60,17 @@ module _ (leads : ℕ → ℕ → Type 0) (top : ℕ) where
       subst (λ v. IsRanking leads top v rs' led seen) (sym pass.queue)
       (subst (λ v. IsRanking leads top q v led seen) (sym pass.ranks) h)
 
-module _ (ns : List Node) (d : ℕ → ℕ) (top : ℕ) (q rs : List ℕ) (i : ℕ) (h : IsRanking (LeadsTo ns d) top q rs i i)
-    (inside : i < length q) (small : length rs < no_rank) (a : ℕ) (is_at : a ≡ get_or q i 0) (n : Node)
+module _ (ns : List Node) (d : ℕ → ℕ) (top : ℕ) (q rs : List ℕ) (i : ℕ) (h : IsRanking (LeadsToSlot ns d) top q rs i i)
+    (inside : i < length q) (small : length rs < blank_rank) (a : ℕ) (is_at : a ≡ get_or q i 0) (n : Node)
     (is_node : n ≡ node_at ns a) where
-  early : i + 1 < no_rank
+  early : i + 1 < blank_rank
   early = omega (arith, h.few, inside, small)
 
-  not_none : i + 1 ≢ no_rank
+  not_none : i + 1 ≢ blank_rank
   not_none e = absurd (omega (arith, e, early))
 
-  on : IsRanking (LeadsTo ns d) top q rs i (i + 1)
-  on = looks-on (LeadsTo ns d) top q rs i h
+  on : IsRanking (LeadsToSlot ns d) top q rs i (i + 1)
+  on = looks-on (LeadsToSlot ns d) top q rs i h
 
   here : n ≡ node_at ns (get_or q i 0)
   here = is_node ∙ ap (node_at ns) is_at
@@ -79,18 +79,18 @@ module _ (ns : List Node) (d : ℕ → ℕ) (top : ℕ) (q rs : List ℕ) (i : �
     grows : IsLonger q q' rs rs' n.next.number
     grows = longer q q' rs rs' n.next.number (i + 1) not_none one
 
-    after : IsRanking (LeadsTo ns d) top q' rs' i (i + 1)
-    after = enqueued-keeps (LeadsTo ns d) top q q' rs rs' i (i + 1) n.next.number i on one (omega arith) inside
+    after : IsRanking (LeadsToSlot ns d) top q' rs' i (i + 1)
+    after = enqueued-keeps (LeadsToSlot ns d) top q q' rs rs' i (i + 1) n.next.number i on one (omega arith) inside
         (inl (ap (λ (v : Node). v.next.number) (sym here))) early (omega arith)
 
     there : n ≡ node_at ns (get_or q' i 0)
     there = here ∙ ap (node_at ns) (sym (grows.place i inside))
 
-    pub leaf-walked : (n.kind ≡ kind.Container → ⊥) → IsRanking (LeadsTo ns d) top q' rs' (i + 1) (i + 1)
-    leaf-walked never = looked-at (LeadsTo ns d) top q' rs' i after (λ y lead l. elim lead [
+    pub leaf-walked : (n.kind ≡ kind.Container → ⊥) → IsRanking (LeadsToSlot ns d) top q' rs' (i + 1) (i + 1)
+    leaf-walked never = looked-at (LeadsToSlot ns d) top q' rs' i after (λ y lead l. elim lead [
       | inl e ↦
           let f : n.next.number ≡ y = ap (λ (v : Node). v.next.number) there ∙ e in
-          subst (IsRanked rs') f (grows.ranked (subst (λ v. v < length rs') (sym f) l))
+          subst (HasRank rs') f (grows.ranked (subst (λ v. v < length rs') (sym f) l))
       | inr k ↦ absurd (never (ap (λ (v : Node). v.kind) there ∙ k.0))
     ])
 
@@ -104,20 +104,20 @@ module _ (ns : List Node) (d : ℕ → ℕ) (top : ℕ) (q rs : List ℕ) (i : �
       at_still : a ≡ get_or q2 i 0
       at_still = is_at ∙ sym (grows.place i inside) ∙ sym place_still
 
-      both : IsRanking (LeadsTo ns d) top q2 rs2 i (i + 1)
-      both = enqueued-keeps (LeadsTo ns d) top q' q2 rs' rs2 i (i + 1) (d a) i after two (omega arith)
+      both : IsRanking (LeadsToSlot ns d) top q2 rs2 i (i + 1)
+      both = enqueued-keeps (LeadsToSlot ns d) top q' q2 rs' rs2 i (i + 1) (d a) i after two (omega arith)
           (omega (arith, inside, grows.more))
           (inr (ap (λ (v : Node). v.kind) (sym there) ∙ is, ap d (grows.place i inside ∙ sym is_at))) early (omega arith)
 
-      pub container-walked : IsRanking (LeadsTo ns d) top q2 rs2 (i + 1) (i + 1)
-      container-walked = looked-at (LeadsTo ns d) top q2 rs2 i both (λ y lead l. elim lead [
+      pub container-walked : IsRanking (LeadsToSlot ns d) top q2 rs2 (i + 1) (i + 1)
+      container-walked = looked-at (LeadsToSlot ns d) top q2 rs2 i both (λ y lead l. elim lead [
         | inl e ↦
             let f : n.next.number ≡ y = ap (λ (v : Node). v.next.number) (is_node ∙ ap (node_at ns) at_still) ∙ e in
-            grows_again.still y (subst (IsRanked rs') f
+            grows_again.still y (subst (HasRank rs') f
             (grows.ranked (omega (arith, grows_again.long, subst (λ v. v < length rs2) (sym f) l))))
         | inr k ↦
             let f : d a ≡ y = ap d at_still ∙ k.1 in
-            subst (IsRanked rs2) f (grows_again.ranked (subst (λ v. v < length rs2) (sym f) l))
+            subst (HasRank rs2) f (grows_again.ranked (subst (λ v. v < length rs2) (sym f) l))
       ])
 
 -- A place of the queue, by its number.
@@ -146,7 +146,7 @@ begin_added leads top q rs rs' blank add =
     let one : length q ≡ 1 = ap (λ (v : List ℕ). length v) add.queue in
     let new : get_or rs' top 0 ≡ 0 = ap (λ v. get_or v top 0) add.ranks ∙ get_or-set_same rs top 0 0 add.lacked.0 in
     let first : get_or q 0 0 ≡ top = ap (λ v. get_or v 0 0) add.queue in
-    let only : (x : ℕ) → IsRanked rs' x → x ≡ top = λ x h. elim (cases_eq x top) [
+    let only : (x : ℕ) → HasRank rs' x → x ≡ top = λ x h. elim (cases_eq x top) [
       | inl e ↦ e
       | inr ne ↦ absurd (h.some (ap (λ v. get_or v x 0) add.ranks ∙ get_or-set_other rs top x 0 0 ne
           ∙ blank x (omega (arith, h.inside, long))))
@@ -155,7 +155,7 @@ begin_added leads top q rs rs' blank add =
     let z : j ≡ 0 = omega (arith, l, one) in ap (λ v. get_or q v 0) z ∙ first in
     record {
       origin = λ x h. inl (only x h);
-      queued = λ j l. subst (IsRanked rs') (sym (at j l))
+      queued = λ j l. subst (HasRank rs') (sym (at j l))
           (record { inside = omega (arith, long, add.lacked.0); some = λ e. absurd (omega (arith, new, e)) });
       low = λ j l. omega (arith, ap (λ v. get_or rs' v 0) (at j l), new);
       found = λ x h. (0, omega (arith, one), first ∙ sym (only x h));
@@ -190,19 +190,19 @@ begins leads top q rs rs' blank (inr pass) =
     (subst (λ v. IsRanking leads top [] v 0 0) (sym pass.ranks) (begin_none leads top rs blank))
 
 -- A list that is filled has no ranks.
-blank_list : (old new : List ℕ) (n m : ℕ) → old ≡ [] → m ≡ length old → new ≡ take n old ++ replicate (n - m) no_rank
-    → new ≡ replicate n no_rank
+blank_list : (old new : List ℕ) (n m : ℕ) → old ≡ [] → m ≡ length old → new ≡ take n old ++ replicate (n - m) blank_rank
+    → new ≡ replicate n blank_rank
 blank_list old new n m none count is =
     let all : n - m ≡ n = omega (arith, count, ap (λ (v : List ℕ). length v) none) in
-    is ∙ ap (λ v. take n v ++ replicate (n - m) no_rank) none
-    ∙ ap (λ (v : List ℕ). v ++ replicate (n - m) no_rank) (take-nil {A = ℕ} n) ∙ ap (λ k. replicate k no_rank) all
+    is ∙ ap (λ v. take n v ++ replicate (n - m) blank_rank) none
+    ∙ ap (λ (v : List ℕ). v ++ replicate (n - m) blank_rank) (take-nil {A = ℕ} n) ∙ ap (λ k. replicate k blank_rank) all
 
-pub blank-made : (old new : List ℕ) (n m : ℕ) → old ≡ [] → m ≡ length old → new ≡ take n old ++ replicate (n - m) no_rank
+pub blank-made : (old new : List ℕ) (n m : ℕ) → old ≡ [] → m ≡ length old → new ≡ take n old ++ replicate (n - m) blank_rank
     → AreBlank new
 blank-made old new n m none count is = λ x l.
     let e = blank_list old new n m none count is in
     ap (λ v. get_or v x 0) e
-    ∙ get_or-replicate n x no_rank 0 (omega (arith, l, ap (λ (v : List ℕ). length v) e, length-replicate n no_rank))
+    ∙ get_or-replicate n x blank_rank 0 (omega (arith, l, ap (λ (v : List ℕ). length v) e, length-replicate n blank_rank))
 
 module _ (ns : List Node) (top : Link) (firsts : List Link) where
   pub walk-begins : (q q' : List Link) (rs rs' : List ℕ) → q ≡ [] → AreBlank rs → length rs ≡ length ns
@@ -212,7 +212,7 @@ module _ (ns : List Node) (top : Link) (firsts : List Link) where
       subst (λ v. IsEnqueued (numbers_in v) (numbers_in q') rs rs' top.number 0) none e in
       let grows = longer [] (numbers_in q') rs rs' top.number 0 (λ z. absurd (omega (arith, z))) f in
       record {
-        ranking = begins (LeadsTo ns (firsts_of top firsts)) top.number (numbers_in q') rs rs' blank f;
+        ranking = begins (LeadsToSlot ns (firsts_of top firsts)) top.number (numbers_in q') rs rs' blank f;
         begun = grows.ranked;
         long = grows.long ∙ long;
       }
@@ -231,7 +231,7 @@ module _ (ns : List Node) (top : Link) (firsts : List Link) where
     pub walk-full : length ns ≤ i → AreRanked ns top firsts rs
     walk-full l = walk-ends (omega (arith, h.ranking.few, h.long, numbers_long q))
 
-    module _ (inside : i < length q) (short : length ns < no_rank) (at : Link) (is_at : at ≡ get_or q i at) (n : Node)
+    module _ (inside : i < length q) (short : length ns < blank_rank) (at : Link) (is_at : at ≡ get_or q i at) (n : Node)
         (is_node : n ≡ node_at ns at.number) (q' : List Link) (rs' : List ℕ)
         (one : IsEnqueued (numbers_in q) (numbers_in q') rs rs' n.next.number (i + 1)) where
       inside_numbers : i < length (numbers_in q)
@@ -240,7 +240,7 @@ module _ (ns : List Node) (top : Link) (firsts : List Link) where
       is_number : at.number ≡ get_or (numbers_in q) i 0
       is_number = ap (λ (l : Link). l.number) is_at ∙ sym (numbers-at q i at inside)
 
-      few_ranks : length rs < no_rank
+      few_ranks : length rs < blank_rank
       few_ranks = omega (arith, h.long)
 
       grown_once : IsLonger (numbers_in q) (numbers_in q') rs rs' n.next.number

@@ -1,6 +1,6 @@
 use Rattle.std.proofs.Common.{◌≡◌, true, false, arith, below_more, refl, subst, sym, rules}
 use Rattle.std.proofs.lemmas.Bool.{false≢true, iff_false}
-use Rattle.atlas_image.specs.Members.{IsMember, IsSettled, IsUsed}
+use Rattle.atlas_image.specs.Members.{IsMember, IsNormalAndAligned, IsUsed}
 use Rattle.atlas_store.specs.Slots.{node_at}
 use Rattle.atlas_image.proofs.ImageLemmas.Joints.{members-all}
 use Rattle.atlas_image.proofs.image.are_members.Goals as goal
@@ -32,7 +32,7 @@ returns-then-not-is_settled g c = (
       let not_settled : c.is_settled.result ≡ false = search rules in
       let used = subst IsUsed c.node-member.ensures (c.is_used.ensures.0 c.if-is_used.true) in
       absurd (iff_false c.is_settled.ensures not_settled
-      (subst (IsSettled c.args.nodes.now c.args.options.now) (sym c.node-member.ensures) (all.settled i used)))),
+      (subst (IsNormalAndAligned c.args.nodes.now c.args.options.now) (sym c.node-member.ensures) (all.settled i used)))),
 )
 
 pub loop-number-preserved : goal.loop-number-preserved
@@ -46,7 +46,7 @@ loop-number-preserved g c =
             members = below_more _ _ c.loop-number.invariant.members (λ _. subst
                 (IsMember c.args.nodes.now c.args.order.now c.args.size i) c.node-member.ensures (w.is_member.ensures.0 member));
             settled = below_more _ _ c.loop-number.invariant.settled (λ _. subst
-                (IsSettled c.args.nodes.now c.args.options.now) c.node-member.ensures (w.is_settled.ensures.0 settled));
+                (IsNormalAndAligned c.args.nodes.now c.args.options.now) c.node-member.ensures (w.is_settled.ensures.0 settled));
           }
       | else-is_used w ↦
           let none : IsUsed (node_at c.args.nodes.now i) → ⊥ = λ u. iff_false c.is_used.ensures w.if-is_used.false
