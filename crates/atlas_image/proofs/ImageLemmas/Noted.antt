@@ -4,7 +4,7 @@ use Rattle.std.proofs.Common.{get_or, get_or-set_other, get_or-set_same, length-
 use Rattle.std.proofs.lemmas.Bool.{cases_eq, cases_lt, eq-eqb, ne_eqb}
 use Rattle.atlas_image.specs.declared.order.Order.{Order}
 use Rattle.atlas_image.specs.Members.{IsFirstOf, IsUsed, first_in, no_first}
-use Rattle.atlas_image.specs.Ranks.{AreNoted, AreRanked, IsNoting, IsOrderOfNodes}
+use Rattle.atlas_image.specs.Ranks.{AreNoted, IsNoting}
 use Rattle.atlas_search.specs.declared.link.Link.{Link}
 use Rattle.atlas_search.specs.Numbers.{no_slot}
 use Rattle.atlas_store.specs.declared.slots.Node.{Node}
@@ -36,17 +36,6 @@ noted-more ns old new i at is long w h = λ k l u p m.
 pub first_moved : {A : Type 0} (o p : Order A) (i : ℕ) → p.top ≡ o.top → p.firsts.items ≡ o.firsts.items
     → first_in p i ≡ first_in o i
 first_moved o p i e f = rw (e, f) refl
-
--- What is found in all.
-pub order-made : {A : Type 0} (ns : List Node) (o p : Order A) → p.top ≡ o.top → p.firsts.items ≡ o.firsts.items
-    → AreNoted ns o (length ns) → AreRanked ns o.top o.firsts.items p.ranks.items → IsOrderOfNodes ns p
-order-made ns o p e f noted ranked = record {
-  noted = λ k l u b m.
-      subst (λ (v : Link). IsFirstOf (node_at ns v.number) (node_at ns k).parent.number)
-      (sym (first_moved o p (node_at ns k).parent.number e f)) (noted k l u b m);
-  ranked = subst (λ v. AreRanked ns p.top v p.ranks.items) (sym f)
-      (subst (λ v. AreRanked ns v o.firsts.items p.ranks.items) (sym e) ranked);
-}
 
 first_top : {A : Type 0} (o : Order A) (i : ℕ) → i ≡ no_slot → first_in o i ≡ o.top
 first_top o i e = rw (eq-eqb i no_slot e) refl

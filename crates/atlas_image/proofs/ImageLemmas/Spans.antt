@@ -1,6 +1,5 @@
 -- Where a node stands, by the spans of its rectangle along both axes.
-use Rattle.std.proofs.Common.{ℕ, ℤ, pos, negsuc, ◌+◌, ◌-◌, ◌<◌, ◌≤ℤ◌, ◌<ℤ◌, ◌≡◌, refl, sym, ap, ◌∙◌, arith}
-use Rattle.std.proofs.lemmas.Int.{ints}
+use Rattle.std.proofs.Common.{ℕ, ◌+◌, ◌-◌, ◌<◌, ◌≡◌, refl, sym, ap, ◌∙◌, arith}
 use Rattle.atlas_image.specs.declared.members.Span.{Span}
 use Rattle.atlas_image.specs.Members.{span_in, IsAcross}
 use Rattle.atlas_model.specs.declared.geometry.Rectangle.{Rectangle}
@@ -102,56 +101,3 @@ inner-sequence n u i f a w x p =
     (a ∙ ap (λ v. span_in (flipped u.axis) v) w ∙ ap (λ o. span_in o n.area) (ap flipped x ∙ twice n.axis))
     ∙ inside_is n.parent.number i (extent_of n) n.axis (span_in (flipped n.axis) n.area) (span_in n.axis n.area)
     (sym (extent_is n.axis n.area))
-
--- A rectangle without a corner below 0 is one of a box.
-
-whole : (z : ℤ) → pos 0 ≤ℤ z → z ≡ pos (natural z)
-whole (pos n) h = refl
-whole (negsuc n) h = absurd (omega (arith, ints, h))
-
-natural_less : (a b : ℤ) → pos 0 ≤ℤ a → a <ℤ b → natural a < natural b
-natural_less (pos a) (pos b) h l = omega (arith, ints, l)
-natural_less (pos a) (negsuc b) h l = absurd (omega (arith, ints, l))
-natural_less (negsuc a) b h l = absurd (omega (arith, ints, h))
-
-above : (a b : ℤ) → pos 0 ≤ℤ a → a <ℤ b → pos 0 ≤ℤ b
-above a b h l = omega (arith, ints, h, l)
-
-rectangle_parts : (r : Rectangle) (a b c d : ℤ) → r.min.x ≡ a → r.min.y ≡ b → r.max.x ≡ c → r.max.y ≡ d
-    → r ≡ record { min = record { x = a; y = b }; max = record { x = c; y = d } }
-rectangle_parts r a b c d e f g h = rw (← e, ← f, ← g, ← h) refl
-
--- What is tested of one.
-pub record IsTested (r : Rectangle) : Type 0 where
-  pub left : pos 0 ≤ℤ r.min.x
-  pub top : pos 0 ≤ℤ r.min.y
-  pub wide : r.min.x <ℤ r.max.x
-  pub high : r.min.y <ℤ r.max.y
-
-pub solid-from : (r : Rectangle) → IsTested r → IsSolid r
-solid-from r t =
-    record {
-      unsigned = rectangle_parts r _ _ _ _ (whole r.min.x t.left) (whole r.min.y t.top)
-          (whole r.max.x (above r.min.x r.max.x t.left t.wide)) (whole r.max.y (above r.min.y r.max.y t.top t.high));
-      nonempty = (natural_less r.min.x r.max.x t.left t.wide, natural_less r.min.y r.max.y t.top t.high);
-    }
-
-least : (z : ℤ) (n : ℕ) → z ≡ pos n → pos 0 ≤ℤ z
-least z n e = rw e (omega (arith, ints))
-
-less : (a b : ℤ) (m n : ℕ) → a ≡ pos m → b ≡ pos n → m < n → a <ℤ b
-less a b m n e f l = rw (e, f) (omega (arith, ints, l))
-
-pub solid-parts : (r : Rectangle) → IsSolid r → IsTested r
-solid-parts r h =
-    let e = h.unsigned in
-    let left : r.min.x ≡ pos (natural r.min.x) = ap (λ (v : Rectangle). v.min.x) e in
-    let top : r.min.y ≡ pos (natural r.min.y) = ap (λ (v : Rectangle). v.min.y) e in
-    let right : r.max.x ≡ pos (natural r.max.x) = ap (λ (v : Rectangle). v.max.x) e in
-    let bottom : r.max.y ≡ pos (natural r.max.y) = ap (λ (v : Rectangle). v.max.y) e in
-    record {
-      left = least r.min.x _ left;
-      top = least r.min.y _ top;
-      wide = less r.min.x r.max.x _ _ left right h.nonempty.0;
-      high = less r.min.y r.max.y _ _ top bottom h.nonempty.1;
-    }

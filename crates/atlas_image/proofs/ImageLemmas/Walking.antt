@@ -1,9 +1,8 @@
 -- The walk that gives ranks: its steps by what the calls leave.
-use Rattle.std.proofs.Common.{ℕ, ◌+◌, ◌<◌, ◌≤◌, ◌≡◌, ◌≢◌, List, [], ◌∷◌, ◌++◌, ◌-◌, refl, sym, ap, ◌∙◌, inl, inr, arith, zero, suc, subst}
-use Rattle.std.proofs.Common.{length, get_or, get_or-set_other, get_or-set_same, length-set, length-append, replicate, take}
+use Rattle.std.proofs.Common.{ℕ, ◌+◌, ◌<◌, ◌≤◌, ◌≡◌, ◌≢◌, List, [], ◌∷◌, ◌++◌, refl, sym, ap, ◌∙◌, inl, inr, arith, zero, suc, subst}
+use Rattle.std.proofs.Common.{length, get_or, get_or-set_other, get_or-set_same, length-set, length-append}
 use Rattle.std.proofs.lemmas.Bool.{cases_eq}
-use Rattle.std.proofs.lemmas.List.{get_or-replicate, get_or_append_left, length-map, length-replicate}
-use Rattle.std.proofs.Math.Seq.{take-nil}
+use Rattle.std.proofs.lemmas.List.{get_or_append_left, length-map}
 use Rattle.std.proofs.lemmas.List.Sums.{sum_by-cons, sum_by-set}
 use Rattle.atlas_image.specs.Ranks.{AreBlank, AreRanked, HasRank, IsAdded, IsEnqueued, IsRanking, IsWalkedTo}
 use Rattle.atlas_image.specs.Ranks.{LeadsToSlot, blank_rank, firsts_of, lacks, numbers_in, unranked}
@@ -188,21 +187,6 @@ begins leads top q rs rs' blank (inl add) = begin_added leads top q rs rs' blank
 begins leads top q rs rs' blank (inr pass) =
     subst (λ v. IsRanking leads top v rs' 0 0) (sym pass.queue)
     (subst (λ v. IsRanking leads top [] v 0 0) (sym pass.ranks) (begin_none leads top rs blank))
-
--- A list that is filled has no ranks.
-blank_list : (old new : List ℕ) (n m : ℕ) → old ≡ [] → m ≡ length old → new ≡ take n old ++ replicate (n - m) blank_rank
-    → new ≡ replicate n blank_rank
-blank_list old new n m none count is =
-    let all : n - m ≡ n = omega (arith, count, ap (λ (v : List ℕ). length v) none) in
-    is ∙ ap (λ v. take n v ++ replicate (n - m) blank_rank) none
-    ∙ ap (λ (v : List ℕ). v ++ replicate (n - m) blank_rank) (take-nil {A = ℕ} n) ∙ ap (λ k. replicate k blank_rank) all
-
-pub blank-made : (old new : List ℕ) (n m : ℕ) → old ≡ [] → m ≡ length old → new ≡ take n old ++ replicate (n - m) blank_rank
-    → AreBlank new
-blank-made old new n m none count is = λ x l.
-    let e = blank_list old new n m none count is in
-    ap (λ v. get_or v x 0) e
-    ∙ get_or-replicate n x blank_rank 0 (omega (arith, l, ap (λ (v : List ℕ). length v) e, length-replicate n blank_rank))
 
 module _ (ns : List Node) (top : Link) (firsts : List Link) where
   pub walk-begins : (q q' : List Link) (rs rs' : List ℕ) → q ≡ [] → AreBlank rs → length rs ≡ length ns
