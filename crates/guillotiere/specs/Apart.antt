@@ -72,6 +72,6 @@ pub record LiesAlong (r : Rectangle) (s : Size) : Type 0 where
   pub high : r.min.y <ℤ r.max.y
   pub bottom : r.max.y ≤ℤ s.height
 
-pub record LiesWithin (r : Rectangle) (s : Size) : Type 0 where
+pub record LiesAcrossAndAlong (r : Rectangle) (s : Size) : Type 0 where
   pub across : LiesAcross r s
   pub along : LiesAlong r s

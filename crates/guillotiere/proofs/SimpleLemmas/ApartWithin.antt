@@ -19,7 +19,7 @@ use Rattle.atlas_model.specs.Pixels.{box_of, natural, sides_of}
 use Rattle.atlas_model.proofs.ListLemmas.ListCounts.{count_by-cons}
 use Rattle.atlas_model.proofs.TreeLemmas.TreeBasics.{one_if}
 use Rattle.atlas_search.specs.Rectangles.{IsSolid}
-use Rattle.guillotiere.specs.Apart.{AreApartIn, AreFrom, IsSlab, IsSolidWithin, LiesWithin, TellsApart}
+use Rattle.guillotiere.specs.Apart.{AreApartIn, AreFrom, IsSlab, IsSolidWithin, LiesAcrossAndAlong, TellsApart}
 use Rattle.guillotiere.proofs.SimpleLemmas.ApartBoxes.{covers_parts}
 use Rattle.guillotiere.proofs.SimpleLemmas.ApartSteps.{exact}
 
@@ -31,7 +31,7 @@ same_corners : (a b c d e f g h : ℤ) → a ≡ e → b ≡ f → c ≡ g → d
 same_corners a b c d e f g h p q r s =
     ap (λ z. corners z b c d) p ∙ ap (λ z. corners e z c d) q ∙ ap (λ z. corners e f z d) r ∙ ap (λ z. corners e f g z) s
 
-pub solid-within : (r : Rectangle) (s : Size) → LiesWithin r s → IsSolidWithin (sides_of s) r
+pub solid-within : (r : Rectangle) (s : Size) → LiesAcrossAndAlong r s → IsSolidWithin (sides_of s) r
 solid-within r s l =
     let left = exact r.min.x l.across.left in
     let top = exact r.min.y l.along.top in
@@ -52,7 +52,7 @@ up_to : (a : ℕ) (z : ℤ) → 0 < a → a ≤ natural z → pos a ≤ℤ z
 up_to a (pos n) h l = omega (arith, ints, l)
 up_to a (negsuc n) h l = absurd (omega (arith, h, l))
 
-pub within-lies : (r : Rectangle) (s : Size) → IsSolidWithin (sides_of s) r → LiesWithin r s
+pub within-lies : (r : Rectangle) (s : Size) → IsSolidWithin (sides_of s) r → LiesAcrossAndAlong r s
 within-lies r s w =
     let left = ap (λ (q : Rectangle). q.min.x) w.solid.unsigned in
     let top = ap (λ (q : Rectangle). q.min.y) w.solid.unsigned in

@@ -4,7 +4,7 @@ ghost use Rattle.atlas_model.specs.Boxes.{AreDisjoint, IsPositive};
 ghost use Rattle.atlas_model.specs.Pixels.{box_of, natural, sides_of};
 ghost use Rattle.atlas_search.specs.Rectangles.{IsSolid};
 ghost use Rattle.guillotiere.specs.Apart.{AreApartIn, AreFrom, AreHalves, AreStacked, IsEndWith, IsSlab, IsSolidWithin};
-ghost use Rattle.guillotiere.specs.Apart.{LiesAcross, LiesAlong, LiesWithin, TellsApart, is_full, is_part};
+ghost use Rattle.guillotiere.specs.Apart.{LiesAcross, LiesAcrossAndAlong, LiesAlong, TellsApart, is_full, is_part};
 
 use atlas_model::{Rectangle, Size};
 use std::alloc::{AllocError, Allocator};
@@ -194,7 +194,7 @@ fn is_along(area: &Rectangle, size: Size) -> bool
 
 // Whether a box has sides above 0, and lies within a size.
 fn is_within(area: &Rectangle, size: Size) -> bool
-    ensures { IsTrue result ↔ LiesWithin area.now size }
+    ensures { IsTrue result ↔ LiesAcrossAndAlong area.now size }
 {
     is_across(area, size) && is_along(area, size)
 }
