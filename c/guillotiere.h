@@ -398,7 +398,7 @@ uint32_t guillotiere_atlas_grow(guillotiere_atlas *atlas, int32_t width, int32_t
 bool guillotiere_atlas_can_grow_to(const guillotiere_atlas *atlas, int32_t width, int32_t height);
 
 /* Whether a request of this size, in pixels, has room: then guillotiere_atlas_allocate grants it, slots and memory aside;
- * else it answers NO_ROOM. Takes one search and no memory. False of a handle that holds nothing. */
+ * else it answers NO_ROOM. Takes at most one search, and no memory. False of a handle that holds nothing. */
 bool guillotiere_atlas_can_fit(const guillotiere_atlas *atlas, int32_t width, int32_t height);
 
 /* Takes memory for this many slots beyond those in use; nothing else changes. While there is memory for 4 more slots no

@@ -160,7 +160,7 @@ pub extern "C" fn guillotiere_atlas_can_grow_to(
 }
 
 /// Whether a request of this size, in pixels, has room: then `guillotiere_atlas_allocate` grants it, slots and memory aside;
-/// else it answers `NO_ROOM`. Takes one search and no memory. False of a handle that holds nothing.
+/// else it answers `NO_ROOM`. Takes at most one search, and no memory. False of a handle that holds nothing.
 #[unsafe(no_mangle)]
 pub extern "C" fn guillotiere_atlas_can_fit(atlas: &AtlasReader, width: i32, height: i32) -> bool
     ensures room { IsSome atlas.now.kept → HoldsAtlas atlas.now.kept

@@ -137,7 +137,7 @@ pub extern "C" fn guillotiere_atlas_can_grow_to(
 }
 
 /// Whether a request of this size, in pixels, has room: then `guillotiere_atlas_allocate` grants it, slots and memory aside;
-/// else it answers `NO_ROOM`. Takes one search and no memory. False of a handle that holds nothing.
+/// else it answers `NO_ROOM`. Takes at most one search, and no memory. False of a handle that holds nothing.
 #[no_mangle]
 pub extern "C" fn guillotiere_atlas_can_fit(
     atlas: Option<&AtlasReader>,

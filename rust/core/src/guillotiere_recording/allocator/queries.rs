@@ -23,7 +23,7 @@ impl<A: Allocator + Copy> RecordingAllocator<A> {
         self.atlas.can_grow_to(new_size)
     }
 
-    /// Whether a request of this size, in pixels, has room, as the atlas's `can_fit` says. Takes one search, and no memory.
+    /// Whether a request of this size, in pixels, has room, as the atlas's `can_fit` says. Takes at most one search, and no memory.
     #[inline]
     #[must_use]
     pub fn can_fit(&self, requested_size: Size) -> bool {
