@@ -11704,7 +11704,7 @@ SMALL uint64_t atlas_search_best_corner(atlas_model_Rectangle rectangle);
 SMALL bool atlas_search_best_Best_ends_in(const atlas_search_Best *self, atlas_search_Cell cell, uint64_t corner);
 SMALL atlas_search_Halves atlas_search_cells_Cell_halves(atlas_search_Cell self);
 SMALL atlas_search_Link atlas_store_slots_entry_SlotEntry_left(const atlas_store_Slot *self);
-PART void atlas_search_search_show_Slot(slice_Slot entries, atlas_search_Link at, atlas_search_Cell cell, atlas_search_Best *best);
+SMALL void atlas_search_search_show_Slot(slice_Slot entries, atlas_search_Link at, atlas_search_Cell cell, atlas_search_Best *best);
 SMALL atlas_search_Link atlas_store_slots_entry_SlotEntry_right(const atlas_store_Slot *self);
 SMALL bool std_alloc_room_may_hold_Allocation(uint64_t n);
 SMALL Result_ptr std_alloc_vec_resize_Allocation(const void *alloc, void *ptr, uint64_t len, uint64_t old_cap, uint64_t new_cap);
@@ -12043,6 +12043,7 @@ SMALL bool atlas_search_cells_Cell_is_beyond(atlas_search_Cell self, atlas_model
 SMALL bool atlas_search_cells_Cell_is_cut_wide(atlas_search_Cell self);
 SMALL uint32_t atlas_search_cells_middle(uint32_t first, uint32_t end);
 SMALL bool atlas_search_best_Best_may_be_in(const atlas_search_Best *self, atlas_search_Cell cell);
+PART void atlas_search_search_show_within_Slot(slice_Slot entries, atlas_search_Link at, atlas_search_Cell cell, atlas_search_Best *best);
 SMALL Result_ptr std_heap_GlobalAllocator_grow_Allocation(const void *self, void *ptr, uint64_t len, uint64_t _old_cap, uint64_t new_cap);
 SMALL void core_mem_drop_Allocation_3(atlas_model_Allocation x);
 SMALL Result_ptr std_heap_GlobalAllocator_grow_Rectangle(const void *self, void *ptr, uint64_t len, uint64_t _old_cap, uint64_t new_cap);
@@ -12062,7 +12063,7 @@ SMALL void atlas_allocator_Destruct_none_drop_Link(atlas_search_Link given_1);
 SMALL void atlas_allocator_Destruct_none_drop_Marks(const atlas_search_Marks given_1);
 SMALL void guillotiere_c_Destruct_none_drop_FreeBox(guillotiere_FreeBox given_1);
 SMALL bool atlas_search_search_show_entry_FreeBox(const guillotiere_FreeBox *entry, atlas_search_Link at, atlas_search_Best *best);
-PART void atlas_search_search_show_FreeBox(slice_FreeBox entries, atlas_search_Link at, atlas_search_Cell cell, atlas_search_Best *best);
+SMALL void atlas_search_search_show_FreeBox(slice_FreeBox entries, atlas_search_Link at, atlas_search_Cell cell, atlas_search_Best *best);
 PART atlas_search_Link atlas_search_heap_leave_FreeBox(slice_FreeBox_2 entries, atlas_search_Link at, atlas_search_Link up);
 SMALL void guillotiere_Destruct_none_drop_FreeBox(guillotiere_FreeBox given_1);
 SMALL bool atlas_search_heap_is_fork_FreeBox(slice_FreeBox entries, atlas_search_Link at);
@@ -12360,6 +12361,8 @@ SMALL void core_slice_sort_small_network_sort_Allocation(slice_Allocation_2 s, v
 SMALL tuple_slice_Allocation_slice_Allocation core_slice_slice_T_split_at_mut_Allocation(slice_Allocation_2 given_1, uint64_t given_2);
 SMALL void core_slice_edits_mirror_Allocation(slice_Allocation_2 front, uint64_t low, slice_Allocation_2 back, uint64_t n);
 SMALL bool guillotiere_simple_boxes_FreeBoxEntry_is_fork(const guillotiere_FreeBox *self);
+PART void atlas_search_search_show_within_FreeBox(slice_FreeBox entries, atlas_search_Link at, atlas_search_Cell cell,
+        atlas_search_Best *best);
 SMALL bool atlas_search_heap_is_left_first_FreeBox(slice_FreeBox entries, atlas_search_Link left, atlas_search_Link right);
 SMALL void atlas_search_heap_hang_left_FreeBox(slice_FreeBox_2 entries, atlas_search_Link above, atlas_search_Link less);
 SMALL void atlas_search_heap_swap_below_FreeBox(slice_FreeBox_2 entries, atlas_search_Link above);
@@ -13688,7 +13691,7 @@ SMALL bool guillotiere_c_atlas_guillotiere_atlas_can_grow_to(const guillotiere_a
 }
 
 /* Whether a request of this size, in pixels, has room: then `guillotiere_atlas_allocate` grants it, slots and memory aside;
- * else it answers `NO_ROOM`. Takes one search and no memory. False of a handle that holds nothing.
+ * else it answers `NO_ROOM`. Takes at most one search, and no memory. False of a handle that holds nothing.
  * crates/guillotiere_c/src/atlas.rt
  */
 SMALL bool guillotiere_c_atlas_guillotiere_atlas_can_fit(const guillotiere_atlas *atlas, uint32_t width, uint32_t height) {
@@ -40104,34 +40107,13 @@ SMALL atlas_search_Link atlas_store_slots_entry_SlotEntry_left(const atlas_store
     return self->left;
 }
 
-/* Shows the entries of a heap with this top and of sizes of a cell to a search, but for those that can't be the best.
+/* The same, where the cell may have no better one. Most halves of lists have none, so that this is a call of its own.
  * crates/atlas_search/src/search.rt
  */
-PART void atlas_search_search_show_Slot(slice_Slot entries, atlas_search_Link at, atlas_search_Cell cell, atlas_search_Best *best) {
-    const atlas_store_Slot *at_5;
-    atlas_search_Halves halves_6;
-    bool is_10;
-    bool is_14;
-    atlas_search_Link link_18;
-    atlas_search_Link link_26;
-    if (!(entries.len <= (uint64_t)at.number)) {
-        is_10 = atlas_search_best_Best_may_be_in(best, cell);
-        if (!(!is_10)) {
-            goto after_2;
-        }
+SMALL void atlas_search_search_show_Slot(slice_Slot entries, atlas_search_Link at, atlas_search_Cell cell, atlas_search_Best *best) {
+    if (atlas_search_best_Best_may_be_in(best, cell)) {
+        atlas_search_search_show_within_Slot(entries, at, cell, best);
     }
-    return;
-after_2:;
-    at_5 = ((atlas_store_Slot *)entries.at + (uint64_t)at.number);
-    is_14 = atlas_search_search_show_entry_Slot(at_5, at, best);
-    if (!is_14) {
-        return;
-    }
-    halves_6 = atlas_search_cells_Cell_halves(cell);
-    link_18 = atlas_store_slots_entry_SlotEntry_left(at_5);
-    atlas_search_search_show_Slot(entries, link_18, halves_6.low, best);
-    link_26 = atlas_store_slots_entry_SlotEntry_right(at_5);
-    atlas_search_search_show_Slot(entries, link_26, halves_6.high, best);
 }
 
 /* crates/atlas_store/src/slots/entry.rt */
@@ -44936,15 +44918,20 @@ SMALL bool atlas_search_cells_Cell_is_beyond(atlas_search_Cell self, atlas_model
 SMALL bool atlas_search_cells_Cell_is_cut_wide(atlas_search_Cell self) {
     uint32_t n_2;
     uint32_t n_3;
+    bool is_5;
+    bool is_6;
     n_2 = self.right - self.left;
     n_3 = self.bottom - self.top;
-    if (n_2 <= 1u) {
-        return false;
+    if (n_2 <= n_3) {
+        is_6 = n_2 == 2u;
+        if (!is_6) {
+            is_6 = n_2 == n_3;
+        }
+        is_5 = is_6;
+    } else {
+        is_5 = n_3 != 2u;
     }
-    if (n_2 < (n_3 + 1u)) {
-        return true;
-    }
-    return n_3 < 2u;
+    return is_5;
 }
 
 /* Where sides are divided.
@@ -44967,6 +44954,35 @@ SMALL bool atlas_search_best_Best_may_be_in(const atlas_search_Best *self, atlas
     }
     is_8 = atlas_search_cells_Cell_is_beyond(cell, self->size, self->reach);
     return !is_8;
+}
+
+/* Shows the entries of a heap with this top and of sizes of a cell to a search, but for those that can't be the best. Of its halves
+ * only those are entered that may have a better one.
+ * crates/atlas_search/src/search.rt
+ */
+PART void atlas_search_search_show_within_Slot(slice_Slot entries, atlas_search_Link at, atlas_search_Cell cell, atlas_search_Best *best) {
+    const atlas_store_Slot *at_5;
+    atlas_search_Halves halves_6;
+    atlas_search_Link link_17;
+    atlas_search_Link link_24;
+    bool is_29;
+    if (entries.len <= (uint64_t)at.number) {
+        return;
+    }
+    at_5 = ((atlas_store_Slot *)entries.at + (uint64_t)at.number);
+    is_29 = atlas_search_search_show_entry_Slot(at_5, at, best);
+    if (!is_29) {
+        return;
+    }
+    halves_6 = atlas_search_cells_Cell_halves(cell);
+    if (atlas_search_best_Best_may_be_in(best, halves_6.low)) {
+        link_17 = atlas_store_slots_entry_SlotEntry_left(at_5);
+        atlas_search_search_show_within_Slot(entries, link_17, halves_6.low, best);
+    }
+    if (atlas_search_best_Best_may_be_in(best, halves_6.high)) {
+        link_24 = atlas_store_slots_entry_SlotEntry_right(at_5);
+        atlas_search_search_show_within_Slot(entries, link_24, halves_6.high, best);
+    }
 }
 
 /* std_heap/src/lib.rt */
@@ -45203,34 +45219,13 @@ SMALL bool atlas_search_search_show_entry_FreeBox(const guillotiere_FreeBox *ent
     return guillotiere_simple_boxes_FreeBoxEntry_is_fork(entry);
 }
 
-/* Shows the entries of a heap with this top and of sizes of a cell to a search, but for those that can't be the best.
+/* The same, where the cell may have no better one. Most halves of lists have none, so that this is a call of its own.
  * crates/atlas_search/src/search.rt
  */
-PART void atlas_search_search_show_FreeBox(slice_FreeBox entries, atlas_search_Link at, atlas_search_Cell cell, atlas_search_Best *best) {
-    const guillotiere_FreeBox *at_5;
-    atlas_search_Halves halves_6;
-    bool is_10;
-    bool is_14;
-    atlas_search_Link link_18;
-    atlas_search_Link link_26;
-    if (!(entries.len <= (uint64_t)at.number)) {
-        is_10 = atlas_search_best_Best_may_be_in(best, cell);
-        if (!(!is_10)) {
-            goto after_2;
-        }
+SMALL void atlas_search_search_show_FreeBox(slice_FreeBox entries, atlas_search_Link at, atlas_search_Cell cell, atlas_search_Best *best) {
+    if (atlas_search_best_Best_may_be_in(best, cell)) {
+        atlas_search_search_show_within_FreeBox(entries, at, cell, best);
     }
-    return;
-after_2:;
-    at_5 = ((guillotiere_FreeBox *)entries.at + (uint64_t)at.number);
-    is_14 = atlas_search_search_show_entry_FreeBox(at_5, at, best);
-    if (!is_14) {
-        return;
-    }
-    halves_6 = atlas_search_cells_Cell_halves(cell);
-    link_18 = guillotiere_simple_boxes_FreeBoxEntry_left(at_5);
-    atlas_search_search_show_FreeBox(entries, link_18, halves_6.low, best);
-    link_26 = guillotiere_simple_boxes_FreeBoxEntry_right(at_5);
-    atlas_search_search_show_FreeBox(entries, link_26, halves_6.high, best);
 }
 
 /* What hangs below an entry becomes one heap, which hangs below `up`. Of a fork's two sides the top that comes first comes up.
@@ -49107,6 +49102,36 @@ SMALL void core_slice_edits_mirror_Allocation(slice_Allocation_2 front, uint64_t
 /* crates/guillotiere/src/simple/boxes.rt */
 SMALL bool guillotiere_simple_boxes_FreeBoxEntry_is_fork(const guillotiere_FreeBox *self) {
     return self->is_fork;
+}
+
+/* Shows the entries of a heap with this top and of sizes of a cell to a search, but for those that can't be the best. Of its halves
+ * only those are entered that may have a better one.
+ * crates/atlas_search/src/search.rt
+ */
+PART void atlas_search_search_show_within_FreeBox(slice_FreeBox entries, atlas_search_Link at, atlas_search_Cell cell,
+        atlas_search_Best *best) {
+    const guillotiere_FreeBox *at_5;
+    atlas_search_Halves halves_6;
+    atlas_search_Link link_17;
+    atlas_search_Link link_24;
+    bool is_29;
+    if (entries.len <= (uint64_t)at.number) {
+        return;
+    }
+    at_5 = ((guillotiere_FreeBox *)entries.at + (uint64_t)at.number);
+    is_29 = atlas_search_search_show_entry_FreeBox(at_5, at, best);
+    if (!is_29) {
+        return;
+    }
+    halves_6 = atlas_search_cells_Cell_halves(cell);
+    if (atlas_search_best_Best_may_be_in(best, halves_6.low)) {
+        link_17 = guillotiere_simple_boxes_FreeBoxEntry_left(at_5);
+        atlas_search_search_show_within_FreeBox(entries, link_17, halves_6.low, best);
+    }
+    if (atlas_search_best_Best_may_be_in(best, halves_6.high)) {
+        link_24 = guillotiere_simple_boxes_FreeBoxEntry_right(at_5);
+        atlas_search_search_show_within_FreeBox(entries, link_24, halves_6.high, best);
+    }
 }
 
 /* Whether the left one of two entries comes first: it is there, and the right one isn't, or comes no earlier.
