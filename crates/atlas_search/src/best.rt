@@ -146,13 +146,15 @@ impl Best {
         }
     }
 
-    /// Shows the box of an entry, which has this corner.
-    pub fn look(&mut self, rectangle: Rectangle, corner: u64, at: Link)
+    /// Shows the box of an entry, which has this corner. Answers whether it is the best now and has an equal side: no box that begins there
+    /// or later is better then.
+    pub fn look(&mut self, rectangle: Rectangle, corner: u64, at: Link) -> bool
         requires unsigned { IsUnsigned rectangle }
         requires nonempty { IsNonempty (box_of rectangle) }
         requires corner { corner ≡ corner_of (box_of rectangle) }
-        ensures { (is_large : Bool) (r : Sides) (shown : List Shown) → HasSeen self.old is_large r shown
+        ensures seen { (is_large : Bool) (r : Sides) (shown : List Shown) → HasSeen self.old is_large r shown
             → HasSeen self.new is_large r (shown ++ shown_at (box_of rectangle) at.number ∷ []) }
+        ensures equal { result ≡ true → (self.new.rank ≡ 0) × (self.new.corner ≡ corner) }
     {
         if let Some(rank) = self.rank_ahead(rectangle, corner) {
             *self = Best {
@@ -164,7 +166,9 @@ impl Best {
                 reach: reach_of(self.is_large, rank),
                 at,
             };
+            return rank == 0;
         }
+        false
     }
 
     /// Whether the best has an equal side.
@@ -183,17 +187,24 @@ impl Best {
         self.bar <= corner
     }
 
-    /// Whether a box of a size in this cell may be better than the best: it may fit, and leave no more over than the best does, or anything
-    /// where the request is large and the best has no equal side.
+    /// Whether the request may fit a box of a size in this cell: both of its sides are before the ends.
     #[inline(always)]
-    pub fn may_be_in(&self, cell: Cell) -> bool
+    pub fn may_fit_in(&self, cell: Cell) -> bool
         ensures { result ≡ false → (is_large : Bool) (r : Sides) (shown more : List Shown) → HasSeen self.now is_large r shown
             → ((c : Shown) → Contains more c → IsIn (box_sides c.box) cell)
             → HasSeen self.now is_large r (shown ++ more) }
     {
-        if !cell.is_below_ends(self.size) {
-            return false;
-        }
+        cell.is_below_ends(self.size)
+    }
+
+    /// Whether a box of a size in this cell may leave no more over than the best does, or anything where the request is large and the best
+    /// has no equal side.
+    #[inline(always)]
+    pub fn may_gain_in(&self, cell: Cell) -> bool
+        ensures { result ≡ false → (is_large : Bool) (r : Sides) (shown more : List Shown) → HasSeen self.now is_large r shown
+            → ((c : Shown) → Contains more c → IsIn (box_sides c.box) cell)
+            → HasSeen self.now is_large r (shown ++ more) }
+    {
         !cell.is_beyond(self.size, self.reach)
     }
 

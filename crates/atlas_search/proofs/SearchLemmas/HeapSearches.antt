@@ -20,7 +20,7 @@ use Rattle.atlas_search.specs.Numbers.{no_slot, occurs}
 use Rattle.atlas_search.specs.Ranks.{corner_of}
 use Rattle.atlas_search.specs.Rectangles.{IsSolid}
 use Rattle.atlas_search.specs.Searches.{Shown, shown_at}
-use Rattle.atlas_search.specs.Showing.{IsListShowable, IsShowable}
+use Rattle.atlas_search.specs.Showing.{IsForkShowable, IsListShowable, IsShowable}
 use Rattle.atlas_search.proofs.Occurrences.{same-self}
 use Rattle.atlas_search.proofs.SearchLemmas.Bests.{natural-most, seen-alike}
 use Rattle.atlas_search.proofs.SearchLemmas.Cells.{cell-is, high-cell, low-cell}
@@ -165,47 +165,48 @@ module _ {E : Type 0} (item : E → Item) (xs : List E) (c : Cell) (top : ℕ) (
             (top-first es as-top.up top top t.left t.right as-top.heap i.0 among)),
       ))))
 
-  -- The top is a fork.
-  module _ (isf : (item x).is_fork ≡ true) where
-    routes : IsSplit c × IsRouted (map item xs) (low c) heap-top.left × IsRouted (map item xs) (high c) heap-top.right
-    routes = as-top.routed.1 (sym (ap (λ (e : Item). e.is_fork) heap-read) ∙ isf)
+  -- The top is a fork, and what hangs below it can be shown.
+  pub heap-fork : (item x).is_fork ≡ true → IsForkShowable (map item xs) c (item x) top heap-top.left heap-top.right
+  heap-fork isf = record { is = heap-read; is_fork = isf; whole = as-top }
 
-    pub heap-split : IsSplit c
-    heap-split = routes.0
+  -- It is shown, and then what hangs below it.
+  pub heap-shown : (b one two : Best) → HasShown (map item xs) (top ∷ []) b one
+      → HasShown (map item xs) (members heap-top.left ++ members heap-top.right) one two
+      → HasShown (map item xs) (members h) b two
+  heap-shown b one two first below =
+      subst (λ (g : Heap). HasShown (map item xs) (members g) b two) (sym heap-top.is)
+      (shown-then (map item xs) (top ∷ []) (members heap-top.left ++ members heap-top.right) b one two first below)
 
-    counts : (i : ℕ) → occurs i (members (Top top heap-top.left heap-top.right)) ≤ 1
-    counts = as-top.once
+-- ---- a fork
 
-    pub heap-low : (at : ℕ) → at ≡ (item x).left → (d : Cell) → d ≡ low c → IsShowable (map item xs) d at heap-top.left
-    heap-low at is d half = subst (λ (k : Cell). IsShowable (map item xs) k at heap-top.left) (sym half) (record {
-      short = s.short;
-      up = top;
-      heap = subst (λ n. IsHeap (map item xs) top n heap-top.left) (sym (is ∙ ap (λ (e : Item). e.left) heap-read)) as-top.heap.2.0;
-      once = λ i. omega (arith, counts i, occurs-top i top heap-top.left heap-top.right);
-      exact = λ i l. as-top.exact i (omega (arith, l, occurs-top i top heap-top.left heap-top.right));
-      is_cell = low-cell c s.is_cell heap-split;
-      routed = routes.1;
-    })
+module _ (es : List Item) (c : Cell) (fork : Item) (top : ℕ) (l r : Heap) (s : IsForkShowable es c fork top l r) where
+  routes : IsSplit c × IsRouted es (low c) l × IsRouted es (high c) r
+  routes = s.whole.routed.1 (sym (ap (λ (e : Item). e.is_fork) s.is) ∙ s.is_fork)
 
-    pub heap-high : (at : ℕ) → at ≡ (item x).right → (d : Cell) → d ≡ high c → IsShowable (map item xs) d at heap-top.right
-    heap-high at is d half = subst (λ (k : Cell). IsShowable (map item xs) k at heap-top.right) (sym half) (record {
-      short = s.short;
-      up = top;
-      heap = subst (λ n. IsHeap (map item xs) top n heap-top.right) (sym (is ∙ ap (λ (e : Item). e.right) heap-read)) as-top.heap.2.1;
-      once = λ i. omega (arith, counts i, occurs-top i top heap-top.left heap-top.right);
-      exact = λ i l. as-top.exact i (omega (arith, l, occurs-top i top heap-top.left heap-top.right));
-      is_cell = high-cell c s.is_cell heap-split;
-      routed = routes.2;
-    })
+  pub fork-split : IsSplit c
+  fork-split = routes.0
 
-    -- It is shown, and then both sides.
-    pub heap-shown : (b one two three : Best) → HasShown (map item xs) (top ∷ []) b one
-        → HasShown (map item xs) (members heap-top.left) one two → HasShown (map item xs) (members heap-top.right) two three
-        → HasShown (map item xs) (members h) b three
-    heap-shown b one two three first left right =
-        subst (λ (g : Heap). HasShown (map item xs) (members g) b three) (sym heap-top.is)
-        (shown-then (map item xs) (top ∷ []) (members heap-top.left ++ members heap-top.right) b one three first
-        (shown-then (map item xs) (members heap-top.left) (members heap-top.right) one two three left right))
+  pub fork-low : (at : ℕ) → at ≡ fork.left → (d : Cell) → d ≡ low c → IsShowable es d at l
+  fork-low at is d half = subst (λ (k : Cell). IsShowable es k at l) (sym half) (record {
+    short = s.whole.short;
+    up = top;
+    heap = subst (λ n. IsHeap es top n l) (sym (is ∙ ap (λ (e : Item). e.left) s.is)) s.whole.heap.2.0;
+    once = λ i. omega (arith, s.whole.once i, occurs-top i top l r);
+    exact = λ i more. s.whole.exact i (omega (arith, more, occurs-top i top l r));
+    is_cell = low-cell c s.whole.is_cell fork-split;
+    routed = routes.1;
+  })
+
+  pub fork-high : (at : ℕ) → at ≡ fork.right → (d : Cell) → d ≡ high c → IsShowable es d at r
+  fork-high at is d half = subst (λ (k : Cell). IsShowable es k at r) (sym half) (record {
+    short = s.whole.short;
+    up = top;
+    heap = subst (λ n. IsHeap es top n r) (sym (is ∙ ap (λ (e : Item). e.right) s.is)) s.whole.heap.2.1;
+    once = λ i. omega (arith, s.whole.once i, occurs-top i top l r);
+    exact = λ i more. s.whole.exact i (omega (arith, more, occurs-top i top l r));
+    is_cell = high-cell c s.whole.is_cell fork-split;
+    routed = routes.2;
+  })
 
 -- ---- a list
 

@@ -83,6 +83,7 @@ fn passed(side: i32, threshold: i32) -> usize {
     }
 }
 
+// The band of a side.
 #[inline]
 fn band(side: i32, options: &AllocatorOptions) -> usize {
     step(side as u32)

@@ -117,9 +117,10 @@ impl Best {
         }
     }
 
-    /// Shows the box of an entry, which has this corner.
+    /// Shows the box of an entry, which has this corner. Answers whether it is the best now and has an equal side: no box that begins there
+    /// or later is better then.
     #[inline]
-    pub fn look(&mut self, rectangle: Rectangle, corner: u64, at: Link) {
+    pub fn look(&mut self, rectangle: Rectangle, corner: u64, at: Link) -> bool {
         if let Some(rank) = self.rank_ahead(rectangle, corner) {
             *self = Best {
                 size: self.size,
@@ -130,7 +131,9 @@ impl Best {
                 reach: reach_of(self.is_large, rank),
                 at,
             };
+            return rank == 0;
         }
+        false
     }
 
     /// Whether the best has an equal side.
@@ -148,14 +151,18 @@ impl Best {
         self.bar <= corner
     }
 
-    /// Whether a box of a size in this cell may be better than the best: it may fit, and leave no more over than the best does, or anything
-    /// where the request is large and the best has no equal side.
+    /// Whether the request may fit a box of a size in this cell: both of its sides are before the ends.
     #[inline(always)]
     #[must_use]
-    pub fn may_be_in(&self, cell: Cell) -> bool {
-        if !cell.is_below_ends(self.size) {
-            return false;
-        }
+    pub fn may_fit_in(&self, cell: Cell) -> bool {
+        cell.is_below_ends(self.size)
+    }
+
+    /// Whether a box of a size in this cell may leave no more over than the best does, or anything where the request is large and the best
+    /// has no equal side.
+    #[inline(always)]
+    #[must_use]
+    pub fn may_gain_in(&self, cell: Cell) -> bool {
         !cell.is_beyond(self.size, self.reach)
     }
 

@@ -30,7 +30,7 @@ pub trait Entry {
 }
 
 // Shows an entry to a search. Answers whether one that hangs below it may be better: where it is a fork, since else those have
-// its size and come no earlier, and where the best hasn't an equal side and comes no later.
+// its size and come no earlier, and where neither it nor a best that comes no later has an equal side.
 #[inline(always)]
 fn show_entry<E: Entry>(entry: &E, at: Link, best: &mut Best) -> bool {
     let area = entry.rectangle();
@@ -38,38 +38,62 @@ fn show_entry<E: Entry>(entry: &E, at: Link, best: &mut Best) -> bool {
     if best.passes(corner) {
         return false;
     }
-    best.look(area, corner, at);
-    if best.passes(corner) {
+    if best.look(area, corner, at) {
         return false;
     }
     entry.is_fork()
 }
 
-// Shows the entries of a heap with this top and of sizes of a cell to a search, but for those that can't be the best. Of its halves
-// only those are entered that may have a better one.
-#[inline]
+// Shows what hangs below a fork of sizes of a cell to a search, but for what can't be the best: of the halves only those are entered that
+// may have a better one.
+#[inline(always)]
+fn show_halves<E: Entry>(entries: &[E], fork: &E, cell: Cell, best: &mut Best) {
+    let halves = cell.halves();
+    if best.may_fit_in(halves.low) {
+        show_within(entries, fork.left(), halves.low, best);
+    }
+    if best.may_gain_in(halves.high) {
+        show_within(entries, fork.right(), halves.high, best);
+    }
+}
+
+// A call of its own for each fork that is entered. The cell comes by its four sides, since a whole one would go through memory.
+#[inline(never)]
+fn show_below<E: Entry>(
+    entries: &[E],
+    fork: &E,
+    best: &mut Best,
+    left: u32,
+    right: u32,
+    top: u32,
+    bottom: u32,
+) {
+    let cell = Cell {
+        left,
+        right,
+        top,
+        bottom,
+    };
+    show_halves(entries, fork, cell, best);
+}
+
+// Shows the entries of a heap with this top and of sizes of a cell to a search, but for those that can't be the best.
+#[inline(always)]
 fn show_within<E: Entry>(entries: &[E], at: Link, cell: Cell, best: &mut Best) {
     if at.number as usize >= entries.len() {
         return;
     }
     let entry = &entries[at.number as usize];
-    if !show_entry(entry, at, best) {
-        return;
-    }
-    let halves = cell.halves();
-    if best.may_be_in(halves.low) {
-        show_within(entries, entry.left(), halves.low, best);
-    }
-    if best.may_be_in(halves.high) {
-        show_within(entries, entry.right(), halves.high, best);
-    }
-}
-
-// The same, where the cell may have no better one. Most halves of lists have none, so that this is a call of its own.
-#[inline(never)]
-fn show<E: Entry>(entries: &[E], at: Link, cell: Cell, best: &mut Best) {
-    if best.may_be_in(cell) {
-        show_within(entries, at, cell, best);
+    if show_entry(entry, at, best) {
+        show_below(
+            entries,
+            entry,
+            best,
+            cell.left,
+            cell.right,
+            cell.top,
+            cell.bottom,
+        );
     }
 }
 
@@ -86,9 +110,7 @@ fn show_list<E: Entry>(entries: &[E], top: Link, is_larger: bool, best: &mut Bes
         if is_larger && best.ends_in(cell, corner(area)) {
             return;
         }
-        let halves = cell.halves();
-        show(entries, entry.left(), halves.low, best);
-        show(entries, entry.right(), halves.high, best);
+        show_halves(entries, entry, cell, best);
     }
 }
 

@@ -122,7 +122,11 @@ impl Walk<'_, '_> {
         match self.source.word(open + 1) {
             "tactic" | "cycle" => {
                 self.source.count(4);
-                self.source.cut_item(i, end);
+                if open == i + 1 {
+                    self.source.cut_with_space(i, end);
+                } else {
+                    self.source.cut_item(i, end);
+                }
             }
             "derive" => self.derive(i, end)?,
             "derive_where" => {

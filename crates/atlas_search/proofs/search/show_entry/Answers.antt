@@ -1,4 +1,4 @@
-use Rattle.std.proofs.Common.{sym, ◌∙◌, rules}
+use Rattle.std.proofs.Common.{sym, ◌∙◌, arith, rules}
 use Rattle.atlas_search.proofs.SearchLemmas.HeapSearches.{entry-alike, entry-looked, entry-over, entry-then_over}
 use Rattle.atlas_search.proofs.search.show_entry.Goals as goal
 
@@ -9,21 +9,21 @@ returns-then-passes-clause-all g c = λ _ es is up d l r heap routed.
     routed
     (search rules) c.corner-corner.result c.corner-corner.ensures.corner c.args.best.now passed.0 passed.1
 
-pub returns-then-passes-2-clause-all : goal.returns-then-passes-2-clause-all
-returns-then-passes-2-clause-all g c = λ _ es is up d l r heap routed.
-    let passed = c.passes-2.ensures c.if-passes-2.true in
+pub returns-then-look-clause-all : goal.returns-then-look-clause-all
+returns-then-look-clause-all g c = λ _ es is up d l r heap routed.
+    let passed = c.look.ensures.equal c.if-look.true in
     entry-then_over es (g.E.Entry.item c.args.entry.now) c.args.at.number is c.rectangle-area.result c.rectangle-area.ensures up d l r heap
     routed
-    (search rules) c.corner-corner.result c.corner-corner.ensures.corner c.args.best.now c.look.new.self passed.0 passed.1
+    (search rules) c.corner-corner.result c.corner-corner.ensures.corner c.args.best.now c.look.new.self passed.0 (omega (arith, passed.1))
     (entry-looked es (g.E.Entry.item c.args.entry.now) c.args.at.number is c.rectangle-area.result c.rectangle-area.ensures
-    c.args.best.now c.look.new.self c.look.ensures)
+    c.args.best.now c.look.new.self c.look.ensures.seen)
 
 pub returns-clause-fork : goal.returns-clause-fork
 returns-clause-fork g c = λ isf. (
   sym c.is_fork.ensures ∙ isf,
   λ es is.
       entry-looked es (g.E.Entry.item c.args.entry.now) c.args.at.number is c.rectangle-area.result c.rectangle-area.ensures
-      c.args.best.now c.look.new.self c.look.ensures,
+      c.args.best.now c.look.new.self c.look.ensures.seen,
 )
 
 pub returns-clause-all : goal.returns-clause-all
@@ -32,4 +32,4 @@ returns-clause-all g c = λ isn es is up d l r heap routed.
     routed
     c.args.best.now c.look.new.self (sym c.is_fork.ensures ∙ isn)
     (entry-looked es (g.E.Entry.item c.args.entry.now) c.args.at.number is c.rectangle-area.result c.rectangle-area.ensures
-    c.args.best.now c.look.new.self c.look.ensures)
+    c.args.best.now c.look.new.self c.look.ensures.seen)

@@ -2,7 +2,7 @@ use Rattle.std.proofs.Common.{map, ap, sym, ◌∙◌, subst, arith, rules}
 use Rattle.std.proofs.lemmas.List.{length-map}
 use Rattle.atlas_search.specs.Forks.{cell_of}
 use Rattle.atlas_search.specs.Rectangles.{IsSolid}
-use Rattle.atlas_search.proofs.SearchLemmas.HeapSearches.{heap-empty, heap-ended, heap-high, heap-low, heap-shown}
+use Rattle.atlas_search.proofs.SearchLemmas.HeapSearches.{heap-empty, heap-ended, heap-fork, heap-shown}
 use Rattle.atlas_search.proofs.SearchLemmas.HeapSearches.{list-alone, list-as_heap, list-read}
 use Rattle.atlas_search.proofs.SearchLemmas.HeapSearches.{list-solid}
 use Rattle.atlas_search.proofs.search.show_list.Goals as goal
@@ -32,33 +32,16 @@ show_entry-requires g c =
     c.index-entries-top.result
     c.index-entries-top.is
 
-pub halves-halves-requires : goal.halves-halves-requires
-halves-halves-requires g c =
-    let s = list-as_heap g.E.Entry.item c.args.entries.now c.args.top.number c.requires.0 c.requires.1 c.if-top-entries.false
-    c.index-entries-top.result c.index-entries-top.is c.rectangle-area.result c.rectangle-area.ensures (search rules) (search rules)
-    c.around-cell.result (c.around-cell.ensures ∙ ap cell_of c.exact_size.ensures.sides) in
-    s.is_cell
-
-pub show-requires : goal.show-requires
-show-requires g c =
+pub show_halves-requires : goal.show_halves-requires
+show_halves-requires g c =
     let s = list-as_heap g.E.Entry.item c.args.entries.now c.args.top.number c.requires.0 c.requires.1 c.if-top-entries.false
     c.index-entries-top.result c.index-entries-top.is c.rectangle-area.result c.rectangle-area.ensures (search rules) (search rules)
     c.around-cell.result (c.around-cell.ensures ∙ ap cell_of c.exact_size.ensures.sides) in (
       _,
-      heap-low g.E.Entry.item c.args.entries.now c.around-cell.result c.args.top.number c.requires.0 s c.if-top-entries.false
-          c.index-entries-top.result c.index-entries-top.is (c.show_entry.ensures.fork c.if-show_entry.true).0
-          c.left.result.number c.left.ensures c.halves-halves.result.low c.halves-halves.ensures.low,
-    )
-
-pub show-requires-then-show_entry : goal.show-requires-then-show_entry
-show-requires-then-show_entry g c =
-    let s = list-as_heap g.E.Entry.item c.args.entries.now c.args.top.number c.requires.0 c.requires.1 c.if-top-entries.false
-    c.index-entries-top.result c.index-entries-top.is c.rectangle-area.result c.rectangle-area.ensures (search rules) (search rules)
-    c.around-cell.result (c.around-cell.ensures ∙ ap cell_of c.exact_size.ensures.sides) in (
       _,
-      heap-high g.E.Entry.item c.args.entries.now c.around-cell.result c.args.top.number c.requires.0 s c.if-top-entries.false
-          c.index-entries-top.result c.index-entries-top.is (c.show_entry.ensures.fork c.if-show_entry.true).0
-          c.right.result.number c.right.ensures c.halves-halves.result.high c.halves-halves.ensures.high,
+      _,
+      heap-fork g.E.Entry.item c.args.entries.now c.around-cell.result c.args.top.number c.requires.0 s c.if-top-entries.false
+          c.index-entries-top.result c.index-entries-top.is (c.show_entry.ensures.fork c.if-show_entry.true).0,
     )
 
 pub returns-then-ends_in : goal.returns-then-ends_in
@@ -83,15 +66,12 @@ returns-else-is_larger g c = λ h l.
     c.index-entries-top.result c.index-entries-top.is c.rectangle-area.result c.rectangle-area.ensures (search rules) (search rules)
     c.around-cell.result (c.around-cell.ensures ∙ ap cell_of c.exact_size.ensures.sides) in
     let f = c.show_entry.ensures.fork c.if-show_entry.true in
-    heap-shown g.E.Entry.item xs c.around-cell.result c.args.top.number h s c.if-top-entries.false x c.index-entries-top.is f.0
-    c.args.best.now c.show_entry.new.best c.show.new.best c.show-then-show_entry.new.best
+    heap-shown g.E.Entry.item xs c.around-cell.result c.args.top.number h s c.if-top-entries.false x c.index-entries-top.is
+    c.args.best.now c.show_entry.new.best c.show_halves.new.best
     (f.1 (map g.E.Entry.item xs)
     (list-read g.E.Entry.item xs c.args.top.number h l c.if-top-entries.false x c.index-entries-top.is))
-    (c.show.ensures _ (heap-low g.E.Entry.item xs c.around-cell.result c.args.top.number h s c.if-top-entries.false x
-    c.index-entries-top.is f.0 c.left.result.number c.left.ensures c.halves-halves.result.low c.halves-halves.ensures.low))
-    (c.show-then-show_entry.ensures _ (heap-high g.E.Entry.item xs c.around-cell.result c.args.top.number h s c.if-top-entries.false x
-    c.index-entries-top.is f.0
-    c.right.result.number c.right.ensures c.halves-halves.result.high c.halves-halves.ensures.high))
+    (c.show_halves.ensures _ _ _ (heap-fork g.E.Entry.item xs c.around-cell.result c.args.top.number h s c.if-top-entries.false x
+    c.index-entries-top.is f.0))
 
 pub returns-else-show_entry : goal.returns-else-show_entry
 returns-else-show_entry g c = λ h s.
