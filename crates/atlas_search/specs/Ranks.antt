@@ -10,6 +10,10 @@ no_rank = 2147483647
 abbrev pub rank_of : (is_large : Bool) → (margin : ℕ) → ℕ
 rank_of is_large margin = if is_large && nat_lt 0 margin then 2147483647 - margin else margin
 
+-- By exclusive or with this a margin above 0 is its rank.
+abbrev pub flip_of : Bool → ℕ
+flip_of is_large = if is_large then 2147483647 else 0
+
 -- The `min` of a box as one number, the greater the later the box comes: the y, and below it the x.
 abbrev pub corner_of : Box → ℕ
 corner_of b = b.min.y * 4294967296 + b.min.x

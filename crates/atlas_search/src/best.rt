@@ -4,7 +4,7 @@ ghost use Rattle.std.specs.Prelude.{◌+◌, ◌<ℤ◌, ◌≤ℤ◌, ◌↔◌
 ghost use Rattle.atlas_model.specs.Boxes.{Box, IsNonempty, IsPositive, Sides, box_sides};
 ghost use Rattle.atlas_model.specs.Choice.{ComesFirst};
 ghost use Rattle.atlas_model.specs.Pixels.{box_of, natural, sides_of};
-ghost use Rattle.atlas_search.specs.Ranks.{corner_of, no_corner, no_rank, rank_of, IsReach};
+ghost use Rattle.atlas_search.specs.Ranks.{corner_of, flip_of, no_corner, no_rank, rank_of, IsReach};
 ghost use Rattle.atlas_search.specs.Rectangles.{IsUnsigned};
 
 use crate::cells::Cell;
@@ -45,6 +45,7 @@ fn longer(side: i32, more: u32) -> i32
 pub struct Best {
     size: Size,
     is_large: bool,
+    flip: u32,
     // The lesser the better, and 0 for an equal side; `NO_RANK` as long as no box was shown that the request fits.
     rank: u32,
     // Its `min`, as `corner` has it.
@@ -56,20 +57,27 @@ pub struct Best {
     // Its entry.
     at: Link,
     ghost positive: { IsPositive (sides_of size) },
+    ghost flipped: { flip ≡ flip_of is_large },
     ghost barred: { bar < 18446744073709551615 → (rank ≡ 0) × (bar ≡ corner) },
     ghost reached: { reach < 4294967295 → IsReach reach rank is_large },
 }
 
-// The rank of a box with this least margin.
-fn rank(is_large: bool, margin: i32) -> u32
-    requires { pos 0 ≤ℤ margin }
-    ensures { result ≡ rank_of is_large (natural margin) }
+// By exclusive or with this a margin above 0 is its rank: of a large request the greater the lesser.
+fn flip_of(is_large: bool) -> u32
+    ensures { result ≡ flip_of is_large }
 {
-    if is_large && margin > 0 {
-        2147483647 - margin as u32
-    } else {
-        margin as u32
+    if is_large { NO_RANK } else { 0 }
+}
+
+// The rank of a box with this least margin.
+fn rank(flip: u32, margin: i32) -> u32
+    requires { pos 0 ≤ℤ margin }
+    ensures { (is_large : Bool) → flip ≡ flip_of is_large → result ≡ rank_of is_large (natural margin) }
+{
+    if margin == 0 {
+        return 0;
     }
+    margin as u32 ^ flip
 }
 
 // How great the least margin of a box may be that is better than the best of this rank. For a large request that doesn't end, unless there
@@ -111,6 +119,7 @@ impl Best {
         Best {
             size,
             is_large,
+            flip: flip_of(is_large),
             rank: NO_RANK,
             corner: NO_CORNER,
             bar: NO_CORNER,
@@ -138,7 +147,7 @@ impl Best {
         if margin < 0 {
             return None;
         }
-        let rank = rank(self.is_large, margin);
+        let rank = rank(self.flip, margin);
         if self.is_beaten_by(rank, corner) {
             Some(rank)
         } else {
@@ -160,6 +169,7 @@ impl Best {
             *self = Best {
                 size: self.size,
                 is_large: self.is_large,
+                flip: self.flip,
                 rank,
                 corner,
                 bar: if rank == 0 { corner } else { NO_CORNER },

@@ -35,6 +35,7 @@ fn longer(side: i32, more: u32) -> i32 {
 pub struct Best {
     size: Size,
     is_large: bool,
+    flip: u32,
     // The lesser the better, and 0 for an equal side; `NO_RANK` as long as no box was shown that the request fits.
     rank: u32,
     // Its `min`, as `corner` has it.
@@ -47,14 +48,23 @@ pub struct Best {
     at: Link,
 }
 
+// By exclusive or with this a margin above 0 is its rank: of a large request the greater the lesser.
+#[inline]
+fn flip_of(is_large: bool) -> u32 {
+    if is_large {
+        NO_RANK
+    } else {
+        0
+    }
+}
+
 // The rank of a box with this least margin.
 #[inline]
-fn rank(is_large: bool, margin: i32) -> u32 {
-    if is_large && margin > 0 {
-        2147483647 - margin as u32
-    } else {
-        margin as u32
+fn rank(flip: u32, margin: i32) -> u32 {
+    if margin == 0 {
+        return 0;
     }
+    margin as u32 ^ flip
 }
 
 // How great the least margin of a box may be that is better than the best of this rank. For a large request that doesn't end, unless there
@@ -88,6 +98,7 @@ impl Best {
         Best {
             size,
             is_large,
+            flip: flip_of(is_large),
             rank: NO_RANK,
             corner: NO_CORNER,
             bar: NO_CORNER,
@@ -109,7 +120,7 @@ impl Best {
         if margin < 0 {
             return None;
         }
-        let rank = rank(self.is_large, margin);
+        let rank = rank(self.flip, margin);
         if self.is_beaten_by(rank, corner) {
             Some(rank)
         } else {
@@ -125,6 +136,7 @@ impl Best {
             *self = Best {
                 size: self.size,
                 is_large: self.is_large,
+                flip: self.flip,
                 rank,
                 corner,
                 bar: if rank == 0 { corner } else { NO_CORNER },
