@@ -22,9 +22,10 @@ returns-then-is_beaten_by-clause-taken c is_large r shown seen at =
     let m = c.margin_in-margin.result in
     let f : FitsSigned w32 m = search rules in
     let h : pos 0 ≤ℤ m = omega (arith, ints) in
+    let ranked = c.rank-rank.ensures c.args.self.now.is_large c.args.self.now.flipped in
     ranked-ahead c.args.self.now is_large r shown seen c.args.rectangle c.args.corner (search rules) (search rules) c.requires.corner m
     c.rank-rank.result
-    (c.margin_in-margin.ensures.fits.0 h) (c.margin_in-margin.ensures.margin h) (simp to_z-of_z at (c.rank-rank.ensures c.args.self.now.is_large c.args.self.now.flipped)) at
+    (c.margin_in-margin.ensures.fits.0 h) (c.margin_in-margin.ensures.margin h) (simp to_z-of_z at ranked) at
     (c.is_beaten_by.ensures.0 c.if-is_beaten_by.true)
 
 pub returns-else-is_beaten_by-clause-passed : goal.returns-else-is_beaten_by-clause-passed
@@ -32,7 +33,8 @@ returns-else-is_beaten_by-clause-passed c none is_large r shown seen at =
     let m = c.margin_in-margin.result in
     let f : FitsSigned w32 m = search rules in
     let h : pos 0 ≤ℤ m = omega (arith, ints) in
+    let ranked = c.rank-rank.ensures c.args.self.now.is_large c.args.self.now.flipped in
     ranked-behind c.args.self.now is_large r shown seen c.args.rectangle c.args.corner (search rules) (search rules) c.requires.corner m
     c.rank-rank.result
-    (c.margin_in-margin.ensures.fits.0 h) (c.margin_in-margin.ensures.margin h) (simp to_z-of_z at (c.rank-rank.ensures c.args.self.now.is_large c.args.self.now.flipped)) at
+    (c.margin_in-margin.ensures.fits.0 h) (c.margin_in-margin.ensures.margin h) (simp to_z-of_z at ranked) at
     (λ p. absurd (true≢false (sym (c.is_beaten_by.ensures.1 p) ∙ c.if-is_beaten_by.false)))
