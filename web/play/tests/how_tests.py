@@ -320,7 +320,7 @@ def test_can_be_read(page):
     names = page.run('return performance.getEntriesByType("resource").map((each) => each.name.split("/").at(-1))')
     assert names == ['wollemigo.wasm'], names
     plain, packed = page.measure([page.address + 'how.html', page.address + 'wollemigo.wasm'])
-    assert plain < 254500 and packed < 100900, (plain, packed)
+    assert plain < 255700 and packed < 101400, (plain, packed)
     for colour in ('dark', 'light'):
         if page.run('return document.documentElement.dataset.theme') != colour:
             page.click('#theme')
