@@ -512,9 +512,9 @@ typedef struct Result_Filling_SheetError Result_Filling_SheetError;
 typedef struct atlas_sheet_Asking atlas_sheet_Asking;
 typedef struct ControlFlow_ErrResidual_SheetError_Asking ControlFlow_ErrResidual_SheetError_Asking;
 typedef struct Result_Asking_SheetError Result_Asking_SheetError;
-typedef struct atlas_search_Halves atlas_search_Halves;
 typedef struct tuple_u64_bool tuple_u64_bool;
 typedef struct atlas_search_Step atlas_search_Step;
+typedef struct atlas_search_Halves atlas_search_Halves;
 typedef struct atlas_search_Pair atlas_search_Pair;
 typedef struct Option_ref_Global Option_ref_Global;
 typedef struct std_collections_Found std_collections_Found;
@@ -2309,6 +2309,7 @@ struct atlas_search_Place {
 struct atlas_search_Best {
     atlas_model_Size size;
     bool is_large;
+    uint32_t flip;
     uint32_t rank;
     uint64_t corner;
     uint64_t bar;
@@ -3609,12 +3610,6 @@ struct Result_Asking_SheetError {
     } is;
 };
 
-/* atlas_search::cells::Halves */
-struct atlas_search_Halves {
-    atlas_search_Cell low;
-    atlas_search_Cell high;
-};
-
 struct tuple_u64_bool {
     uint64_t field_0;
     bool field_1;
@@ -3624,6 +3619,12 @@ struct tuple_u64_bool {
 struct atlas_search_Step {
     uint32_t first;
     uint32_t end;
+};
+
+/* atlas_search::cells::Halves */
+struct atlas_search_Halves {
+    atlas_search_Cell low;
+    atlas_search_Cell high;
 };
 
 /* atlas_search::heap::Pair */
@@ -6430,11 +6431,12 @@ MAKER atlas_search_Mask new_atlas_search_Mask(uint64_t bits) {
     return it;
 }
 
-MAKER atlas_search_Best new_atlas_search_Best(atlas_model_Size size, bool is_large, uint32_t rank, uint64_t corner, uint64_t bar,
-        uint32_t reach, atlas_search_Link at) {
+MAKER atlas_search_Best new_atlas_search_Best(atlas_model_Size size, bool is_large, uint32_t flip, uint32_t rank, uint64_t corner,
+        uint64_t bar, uint32_t reach, atlas_search_Link at) {
     atlas_search_Best it;
     it.size = size;
     it.is_large = is_large;
+    it.flip = flip;
     it.rank = rank;
     it.corner = corner;
     it.bar = bar;
@@ -8183,13 +8185,6 @@ MAKER ControlFlow_ErrResidual_SheetError_Asking new_ControlFlow_ErrResidual_Shee
     return it;
 }
 
-MAKER atlas_search_Halves new_atlas_search_Halves(atlas_search_Cell low, atlas_search_Cell high) {
-    atlas_search_Halves it;
-    it.low = low;
-    it.high = high;
-    return it;
-}
-
 MAKER tuple_u64_bool new_tuple_u64_bool(uint64_t field_0, bool field_1) {
     tuple_u64_bool it;
     it.field_0 = field_0;
@@ -8208,6 +8203,13 @@ MAKER atlas_search_Pair new_atlas_search_Pair(atlas_search_Link first, atlas_sea
     atlas_search_Pair it;
     it.first = first;
     it.rest = rest;
+    return it;
+}
+
+MAKER atlas_search_Halves new_atlas_search_Halves(atlas_search_Cell low, atlas_search_Cell high) {
+    atlas_search_Halves it;
+    it.low = low;
+    it.high = high;
     return it;
 }
 
@@ -10983,6 +10985,7 @@ SMALL uint32_t atlas_search_choice_spare(uint32_t from, uint32_t to, uint32_t si
 SMALL atlas_search_Mask atlas_search_masks_Mask_none(void);
 SMALL atlas_search_Mask atlas_search_marks_Marks_row(const atlas_search_Marks *self, uint64_t i);
 SMALL atlas_search_Mask atlas_search_marks_Marks_column(const atlas_search_Marks *self, uint64_t j);
+SMALL uint32_t atlas_search_best_flip_of(bool is_large);
 SMALL atlas_search_Mask atlas_search_masks_Mask_below(atlas_search_Mask self, uint64_t k);
 SMALL void atlas_search_search_search_row_Slot(slice_Slot entries, const atlas_search_Table *table, uint64_t row,
         atlas_search_Mask columns, bool is_larger, atlas_search_Best *best);
@@ -11702,10 +11705,8 @@ SMALL Option_Size atlas_search_best_Best_farthest(const atlas_search_Best *self)
 SMALL bool atlas_search_search_show_entry_Slot(const atlas_store_Slot *entry, atlas_search_Link at, atlas_search_Best *best);
 SMALL uint64_t atlas_search_best_corner(atlas_model_Rectangle rectangle);
 SMALL bool atlas_search_best_Best_ends_in(const atlas_search_Best *self, atlas_search_Cell cell, uint64_t corner);
-SMALL atlas_search_Halves atlas_search_cells_Cell_halves(atlas_search_Cell self);
-SMALL atlas_search_Link atlas_store_slots_entry_SlotEntry_left(const atlas_store_Slot *self);
-SMALL void atlas_search_search_show_Slot(slice_Slot entries, atlas_search_Link at, atlas_search_Cell cell, atlas_search_Best *best);
-SMALL atlas_search_Link atlas_store_slots_entry_SlotEntry_right(const atlas_store_Slot *self);
+SMALL void atlas_search_search_show_halves_Slot(slice_Slot entries, const atlas_store_Slot *fork, atlas_search_Cell cell,
+        atlas_search_Best *best);
 SMALL bool std_alloc_room_may_hold_Allocation(uint64_t n);
 SMALL Result_ptr std_alloc_vec_resize_Allocation(const void *alloc, void *ptr, uint64_t len, uint64_t old_cap, uint64_t new_cap);
 SMALL void std_alloc_vec_opened_drop_run_Allocation_3(Slots_CacheChange_u64 *row, uint64_t from, uint64_t to);
@@ -11750,6 +11751,7 @@ SMALL atlas_search_Link atlas_search_heap_meld_FreeBox(slice_FreeBox_2 entries, 
         atlas_search_Link up);
 SMALL void atlas_search_heap_make_fork_FreeBox(slice_FreeBox_2 entries, atlas_search_Cell cell, atlas_search_Link top);
 SMALL atlas_search_Pair atlas_search_heap_in_order_FreeBox(slice_FreeBox entries, atlas_search_Link one, atlas_search_Link other);
+SMALL atlas_search_Halves atlas_search_cells_Cell_halves(atlas_search_Cell self);
 SMALL bool atlas_search_cells_Cell_is_below_ends(atlas_search_Cell self, atlas_model_Size size);
 SMALL void atlas_search_heap_move_below_FreeBox(slice_FreeBox_2 entries, atlas_search_Link at, atlas_search_Link up);
 SMALL void core_mem_drop_Link_4(atlas_search_Link x);
@@ -12018,6 +12020,8 @@ SMALL void core_slots_Slots_put_Link(Slots_CacheChange_u64 *given_1, uint64_t gi
 SMALL void core_mem_drop_Link_5(atlas_search_Link x);
 SMALL void core_mem_drop_Marks_4(const atlas_search_Marks x);
 SMALL atlas_search_Link atlas_store_slots_entry_SlotEntry_up(const atlas_store_Slot *self);
+SMALL atlas_search_Link atlas_store_slots_entry_SlotEntry_left(const atlas_store_Slot *self);
+SMALL atlas_search_Link atlas_store_slots_entry_SlotEntry_right(const atlas_store_Slot *self);
 SMALL bool atlas_search_heap_is_fork_Slot(slice_Slot entries, atlas_search_Link at);
 SMALL atlas_search_Link atlas_search_heap_close_Slot(slice_Slot_2 entries, atlas_search_Link at, atlas_search_Link up);
 SMALL bool atlas_search_heap_is_left_first_Slot(slice_Slot entries, atlas_search_Link left, atlas_search_Link right);
@@ -12037,13 +12041,12 @@ SMALL void atlas_search_heap_make_fork_Slot(slice_Slot_2 entries, atlas_search_C
 SMALL atlas_search_Pair atlas_search_heap_in_order_Slot(slice_Slot entries, atlas_search_Link one, atlas_search_Link other);
 SMALL uint32_t atlas_search_best_longer(uint32_t side, uint32_t more);
 SMALL bool atlas_search_best_Best_passes(const atlas_search_Best *self, uint64_t corner);
-SMALL void atlas_search_best_Best_look(atlas_search_Best *self, atlas_model_Rectangle rectangle, uint64_t corner, atlas_search_Link at);
+SMALL bool atlas_search_best_Best_look(atlas_search_Best *self, atlas_model_Rectangle rectangle, uint64_t corner, atlas_search_Link at);
 SMALL bool atlas_store_slots_entry_SlotEntry_is_fork(const atlas_store_Slot *self);
 SMALL bool atlas_search_cells_Cell_is_beyond(atlas_search_Cell self, atlas_model_Size size, uint32_t more);
-SMALL bool atlas_search_cells_Cell_is_cut_wide(atlas_search_Cell self);
-SMALL uint32_t atlas_search_cells_middle(uint32_t first, uint32_t end);
-SMALL bool atlas_search_best_Best_may_be_in(const atlas_search_Best *self, atlas_search_Cell cell);
-PART void atlas_search_search_show_within_Slot(slice_Slot entries, atlas_search_Link at, atlas_search_Cell cell, atlas_search_Best *best);
+SMALL bool atlas_search_best_Best_may_fit_in(const atlas_search_Best *self, atlas_search_Cell cell);
+SMALL void atlas_search_search_show_within_Slot(slice_Slot entries, atlas_search_Link at, atlas_search_Cell cell, atlas_search_Best *best);
+SMALL bool atlas_search_best_Best_may_gain_in(const atlas_search_Best *self, atlas_search_Cell cell);
 SMALL Result_ptr std_heap_GlobalAllocator_grow_Allocation(const void *self, void *ptr, uint64_t len, uint64_t _old_cap, uint64_t new_cap);
 SMALL void core_mem_drop_Allocation_3(atlas_model_Allocation x);
 SMALL Result_ptr std_heap_GlobalAllocator_grow_Rectangle(const void *self, void *ptr, uint64_t len, uint64_t _old_cap, uint64_t new_cap);
@@ -12063,7 +12066,8 @@ SMALL void atlas_allocator_Destruct_none_drop_Link(atlas_search_Link given_1);
 SMALL void atlas_allocator_Destruct_none_drop_Marks(const atlas_search_Marks given_1);
 SMALL void guillotiere_c_Destruct_none_drop_FreeBox(guillotiere_FreeBox given_1);
 SMALL bool atlas_search_search_show_entry_FreeBox(const guillotiere_FreeBox *entry, atlas_search_Link at, atlas_search_Best *best);
-SMALL void atlas_search_search_show_FreeBox(slice_FreeBox entries, atlas_search_Link at, atlas_search_Cell cell, atlas_search_Best *best);
+SMALL void atlas_search_search_show_halves_FreeBox(slice_FreeBox entries, const guillotiere_FreeBox *fork, atlas_search_Cell cell,
+        atlas_search_Best *best);
 PART atlas_search_Link atlas_search_heap_leave_FreeBox(slice_FreeBox_2 entries, atlas_search_Link at, atlas_search_Link up);
 SMALL void guillotiere_Destruct_none_drop_FreeBox(guillotiere_FreeBox given_1);
 SMALL bool atlas_search_heap_is_fork_FreeBox(slice_FreeBox entries, atlas_search_Link at);
@@ -12071,6 +12075,8 @@ SMALL atlas_search_Step atlas_search_cells_step_from(uint32_t side, uint32_t man
 SMALL void atlas_search_heap_set_up_FreeBox(slice_FreeBox_2 entries, atlas_search_Link at, atlas_search_Link up);
 SMALL void atlas_search_heap_hang_FreeBox(slice_FreeBox_2 entries, atlas_search_Link top, atlas_search_Link part);
 SMALL atlas_search_Link atlas_search_heap_close_FreeBox(slice_FreeBox_2 entries, atlas_search_Link at, atlas_search_Link up);
+SMALL bool atlas_search_cells_Cell_is_cut_wide(atlas_search_Cell self);
+SMALL uint32_t atlas_search_cells_middle(uint32_t first, uint32_t end);
 SMALL void guillotiere_Destruct_none_drop_Link(atlas_search_Link given_1);
 SMALL void guillotiere_Destruct_none_drop_Marks(const atlas_search_Marks given_1);
 SMALL void std_alloc_vec_Vec_truncate_Slot_6(Vec_Slot *self, uint64_t n);
@@ -12345,6 +12351,8 @@ SMALL void atlas_search_marks_Marks_unmark(atlas_search_Marks *self, atlas_searc
 SMALL void atlas_search_heap_hang_Slot(slice_Slot_2 entries, atlas_search_Link top, atlas_search_Link part);
 SMALL Option_u32 atlas_search_best_Best_rank_ahead(const atlas_search_Best *self, atlas_model_Rectangle rectangle, uint64_t corner);
 SMALL uint32_t atlas_search_best_reach_of(bool is_large, uint32_t rank);
+PART void atlas_search_search_show_below_Slot(slice_Slot entries, const atlas_store_Slot *fork, atlas_search_Best *best, uint32_t left,
+        uint32_t right, uint32_t top, uint32_t bottom);
 SMALL void core_slots_lends_with_slots_Allocation_u64(slice_Allocation_2 given_1, void *given_2, uint64_t given_3);
 SMALL bool core_slice_sort_order_ByKeyOrder_less_Allocation_Reverse_tuple_u64_u32(void *given_1, const atlas_model_Allocation *given_2,
         const atlas_model_Allocation *given_3);
@@ -12361,7 +12369,7 @@ SMALL void core_slice_sort_small_network_sort_Allocation(slice_Allocation_2 s, v
 SMALL tuple_slice_Allocation_slice_Allocation core_slice_slice_T_split_at_mut_Allocation(slice_Allocation_2 given_1, uint64_t given_2);
 SMALL void core_slice_edits_mirror_Allocation(slice_Allocation_2 front, uint64_t low, slice_Allocation_2 back, uint64_t n);
 SMALL bool guillotiere_simple_boxes_FreeBoxEntry_is_fork(const guillotiere_FreeBox *self);
-PART void atlas_search_search_show_within_FreeBox(slice_FreeBox entries, atlas_search_Link at, atlas_search_Cell cell,
+SMALL void atlas_search_search_show_within_FreeBox(slice_FreeBox entries, atlas_search_Link at, atlas_search_Cell cell,
         atlas_search_Best *best);
 SMALL bool atlas_search_heap_is_left_first_FreeBox(slice_FreeBox entries, atlas_search_Link left, atlas_search_Link right);
 SMALL void atlas_search_heap_hang_left_FreeBox(slice_FreeBox_2 entries, atlas_search_Link above, atlas_search_Link less);
@@ -12588,7 +12596,7 @@ SMALL void std_alloc_Destruct_none_drop_Link(atlas_search_Link given_1);
 SMALL atlas_search_Mask atlas_search_masks_Mask_without(atlas_search_Mask self, uint64_t k);
 SMALL void atlas_search_heap_hang_left_Slot(slice_Slot_2 entries, atlas_search_Link above, atlas_search_Link less);
 SMALL void atlas_search_heap_swap_below_Slot(slice_Slot_2 entries, atlas_search_Link above);
-SMALL uint32_t atlas_search_best_rank(bool is_large, uint32_t margin);
+SMALL uint32_t atlas_search_best_rank(uint32_t flip, uint32_t margin);
 SMALL bool atlas_search_best_Best_is_beaten_by(const atlas_search_Best *self, uint32_t rank, uint64_t corner);
 SMALL tuple_Slots_CacheChange_u64 core_core_slice_sort_small_insert_each_FnOnce_call_once_Allocation(Slots_CacheChange_u64 given_2,
         uint64_t given_4);
@@ -12606,6 +12614,8 @@ SMALL void core_slots_lends_with_slots_Allocation_2(slice_Allocation_2 given_1, 
 SMALL void core_slots_lends_with_slots_Allocation_3(slice_Allocation_2 given_1, void *given_2);
 SMALL tuple_slice_Allocation_slice_Allocation core_slice_split_at_mut_inner_Allocation(slice_Allocation_2 s, uint64_t mid);
 SMALL void core_mem_swap_Allocation(atlas_model_Allocation *x, atlas_model_Allocation *y);
+PART void atlas_search_search_show_below_FreeBox(slice_FreeBox entries, const guillotiere_FreeBox *fork, atlas_search_Best *best,
+        uint32_t left, uint32_t right, uint32_t top, uint32_t bottom);
 SMALL void std_alloc_vec_opened_drop_run_Slot_6(Slots_CacheChange_u64 *row, uint64_t from, uint64_t to);
 SMALL void std_alloc_vec_opened_drop_run_Link_10(Slots_CacheChange_u64 *row, uint64_t from, uint64_t to);
 SMALL void std_alloc_vec_opened_drop_run_Marks_6(Slots_CacheChange_u64 *row, uint64_t from, uint64_t to);
@@ -25772,8 +25782,10 @@ SMALL uint64_t atlas_search_search_least_from(const atlas_search_Table *table, a
  * crates/atlas_search/src/best.rt
  */
 SMALL atlas_search_Best atlas_search_best_Best_new(atlas_model_Size size, bool is_large) {
-    return new_atlas_search_Best(size, is_large, 2147483647u, UINT64_C(18446744073709551615), UINT64_C(18446744073709551615), 4294967295u,
-            new_atlas_search_Link(4294967295u));
+    uint32_t n_3;
+    n_3 = atlas_search_best_flip_of(is_large);
+    return new_atlas_search_Best(size, is_large, n_3, 2147483647u, UINT64_C(18446744073709551615), UINT64_C(18446744073709551615),
+            4294967295u, new_atlas_search_Link(4294967295u));
 }
 
 /* The border of a class after a row or a column.
@@ -30373,6 +30385,19 @@ SMALL atlas_search_Mask atlas_search_marks_Marks_row(const atlas_search_Marks *s
  */
 SMALL atlas_search_Mask atlas_search_marks_Marks_column(const atlas_search_Marks *self, uint64_t j) {
     return *((atlas_search_Mask *)(void *)&self->columns + j);
+}
+
+/* By exclusive or with this a margin above 0 is its rank: of a large request the greater the lesser.
+ * crates/atlas_search/src/best.rt
+ */
+SMALL uint32_t atlas_search_best_flip_of(bool is_large) {
+    uint32_t n_3;
+    if (is_large) {
+        n_3 = 2147483647u;
+    } else {
+        n_3 = 0u;
+    }
+    return n_3;
 }
 
 /* The numbers of the set below one.
@@ -35361,30 +35386,23 @@ SMALL void atlas_search_search_show_list_Slot(slice_Slot entries, atlas_search_L
     const atlas_store_Slot *at_5;
     atlas_model_Rectangle rectangle_6;
     atlas_search_Cell cell_7;
-    atlas_search_Halves halves_8;
-    atlas_model_Size size_15;
-    uint64_t n_18;
-    atlas_search_Link link_21;
-    atlas_search_Link link_29;
+    atlas_model_Size size_14;
+    uint64_t n_17;
     if (entries.len <= (uint64_t)top.number) {
         return;
     }
     at_5 = ((atlas_store_Slot *)entries.at + (uint64_t)top.number);
     if (atlas_search_search_show_entry_Slot(at_5, top, best)) {
         rectangle_6 = atlas_store_slots_entry_SlotEntry_rectangle(at_5);
-        size_15 = atlas_search_cut_exact_size(rectangle_6);
-        cell_7 = atlas_search_cells_Cell_around(size_15);
+        size_14 = atlas_search_cut_exact_size(rectangle_6);
+        cell_7 = atlas_search_cells_Cell_around(size_14);
         if (is_larger) {
-            n_18 = atlas_search_best_corner(rectangle_6);
-            if (atlas_search_best_Best_ends_in(best, cell_7, n_18)) {
+            n_17 = atlas_search_best_corner(rectangle_6);
+            if (atlas_search_best_Best_ends_in(best, cell_7, n_17)) {
                 return;
             }
         }
-        halves_8 = atlas_search_cells_Cell_halves(cell_7);
-        link_21 = atlas_store_slots_entry_SlotEntry_left(at_5);
-        atlas_search_search_show_Slot(entries, link_21, halves_8.low, best);
-        link_29 = atlas_store_slots_entry_SlotEntry_right(at_5);
-        atlas_search_search_show_Slot(entries, link_29, halves_8.high, best);
+        atlas_search_search_show_halves_Slot(entries, at_5, cell_7, best);
     }
 }
 
@@ -40044,7 +40062,7 @@ after_2:;
 }
 
 /* Shows an entry to a search. Answers whether one that hangs below it may be better: where it is a fork, since else those have
- * its size and come no earlier, and where the best hasn't an equal side and comes no later.
+ * its size and come no earlier, and where neither it nor a best that comes no later has an equal side.
  * crates/atlas_search/src/search.rt
  */
 SMALL bool atlas_search_search_show_entry_Slot(const atlas_store_Slot *entry, atlas_search_Link at, atlas_search_Best *best) {
@@ -40055,8 +40073,7 @@ SMALL bool atlas_search_search_show_entry_Slot(const atlas_store_Slot *entry, at
     if (atlas_search_best_Best_passes(best, n_5)) {
         return false;
     }
-    atlas_search_best_Best_look(best, rectangle_4, n_5, at);
-    if (atlas_search_best_Best_passes(best, n_5)) {
+    if (atlas_search_best_Best_look(best, rectangle_4, n_5, at)) {
         return false;
     }
     return atlas_store_slots_entry_SlotEntry_is_fork(entry);
@@ -40083,42 +40100,24 @@ SMALL bool atlas_search_best_Best_ends_in(const atlas_search_Best *self, atlas_s
     return atlas_search_cells_Cell_is_beyond(cell, self->size, self->reach - 1u);
 }
 
-/* The halves of a cell of more than one size.
- * crates/atlas_search/src/cells.rt
- */
-SMALL atlas_search_Halves atlas_search_cells_Cell_halves(atlas_search_Cell self) {
-    uint32_t n_2;
-    uint32_t n_3;
-    atlas_search_Halves halves_5;
-    if (atlas_search_cells_Cell_is_cut_wide(self)) {
-        n_2 = atlas_search_cells_middle(self.left, self.right);
-        halves_5 = new_atlas_search_Halves(new_atlas_search_Cell(self.left, n_2, self.top, self.bottom), new_atlas_search_Cell(n_2,
-                self.right, self.top, self.bottom));
-    } else {
-        n_3 = atlas_search_cells_middle(self.top, self.bottom);
-        halves_5 = new_atlas_search_Halves(new_atlas_search_Cell(self.left, self.right, self.top, n_3), new_atlas_search_Cell(self.left,
-                self.right, n_3, self.bottom));
-    }
-    return halves_5;
-}
-
-/* crates/atlas_store/src/slots/entry.rt */
-SMALL atlas_search_Link atlas_store_slots_entry_SlotEntry_left(const atlas_store_Slot *self) {
-    return self->left;
-}
-
-/* The same, where the cell may have no better one. Most halves of lists have none, so that this is a call of its own.
+/* Shows what hangs below a fork of sizes of a cell to a search, but for what can't be the best: of the halves only those are entered that
+ * may have a better one.
  * crates/atlas_search/src/search.rt
  */
-SMALL void atlas_search_search_show_Slot(slice_Slot entries, atlas_search_Link at, atlas_search_Cell cell, atlas_search_Best *best) {
-    if (atlas_search_best_Best_may_be_in(best, cell)) {
-        atlas_search_search_show_within_Slot(entries, at, cell, best);
+SMALL void atlas_search_search_show_halves_Slot(slice_Slot entries, const atlas_store_Slot *fork, atlas_search_Cell cell,
+        atlas_search_Best *best) {
+    atlas_search_Halves halves_5;
+    atlas_search_Link link_10;
+    atlas_search_Link link_17;
+    halves_5 = atlas_search_cells_Cell_halves(cell);
+    if (atlas_search_best_Best_may_fit_in(best, halves_5.low)) {
+        link_10 = atlas_store_slots_entry_SlotEntry_left(fork);
+        atlas_search_search_show_within_Slot(entries, link_10, halves_5.low, best);
     }
-}
-
-/* crates/atlas_store/src/slots/entry.rt */
-SMALL atlas_search_Link atlas_store_slots_entry_SlotEntry_right(const atlas_store_Slot *self) {
-    return self->right;
+    if (atlas_search_best_Best_may_gain_in(best, halves_5.high)) {
+        link_17 = atlas_store_slots_entry_SlotEntry_right(fork);
+        atlas_search_search_show_within_Slot(entries, link_17, halves_5.high, best);
+    }
 }
 
 /* Whether an array of n values is small enough to allocate.
@@ -40452,30 +40451,23 @@ SMALL void atlas_search_search_show_list_FreeBox(slice_FreeBox entries, atlas_se
     const guillotiere_FreeBox *at_5;
     atlas_model_Rectangle rectangle_6;
     atlas_search_Cell cell_7;
-    atlas_search_Halves halves_8;
-    atlas_model_Size size_15;
-    uint64_t n_18;
-    atlas_search_Link link_21;
-    atlas_search_Link link_29;
+    atlas_model_Size size_14;
+    uint64_t n_17;
     if (entries.len <= (uint64_t)top.number) {
         return;
     }
     at_5 = ((guillotiere_FreeBox *)entries.at + (uint64_t)top.number);
     if (atlas_search_search_show_entry_FreeBox(at_5, top, best)) {
         rectangle_6 = guillotiere_simple_boxes_FreeBoxEntry_rectangle(at_5);
-        size_15 = atlas_search_cut_exact_size(rectangle_6);
-        cell_7 = atlas_search_cells_Cell_around(size_15);
+        size_14 = atlas_search_cut_exact_size(rectangle_6);
+        cell_7 = atlas_search_cells_Cell_around(size_14);
         if (is_larger) {
-            n_18 = atlas_search_best_corner(rectangle_6);
-            if (atlas_search_best_Best_ends_in(best, cell_7, n_18)) {
+            n_17 = atlas_search_best_corner(rectangle_6);
+            if (atlas_search_best_Best_ends_in(best, cell_7, n_17)) {
                 return;
             }
         }
-        halves_8 = atlas_search_cells_Cell_halves(cell_7);
-        link_21 = guillotiere_simple_boxes_FreeBoxEntry_left(at_5);
-        atlas_search_search_show_FreeBox(entries, link_21, halves_8.low, best);
-        link_29 = guillotiere_simple_boxes_FreeBoxEntry_right(at_5);
-        atlas_search_search_show_FreeBox(entries, link_29, halves_8.high, best);
+        atlas_search_search_show_halves_FreeBox(entries, at_5, cell_7, best);
     }
 }
 
@@ -40694,6 +40686,25 @@ SMALL atlas_search_Pair atlas_search_heap_in_order_FreeBox(slice_FreeBox entries
         pair_7 = new_atlas_search_Pair(one, other);
     }
     return pair_7;
+}
+
+/* The halves of a cell of more than one size.
+ * crates/atlas_search/src/cells.rt
+ */
+SMALL atlas_search_Halves atlas_search_cells_Cell_halves(atlas_search_Cell self) {
+    uint32_t n_2;
+    uint32_t n_3;
+    atlas_search_Halves halves_5;
+    if (atlas_search_cells_Cell_is_cut_wide(self)) {
+        n_2 = atlas_search_cells_middle(self.left, self.right);
+        halves_5 = new_atlas_search_Halves(new_atlas_search_Cell(self.left, n_2, self.top, self.bottom), new_atlas_search_Cell(n_2,
+                self.right, self.top, self.bottom));
+    } else {
+        n_3 = atlas_search_cells_middle(self.top, self.bottom);
+        halves_5 = new_atlas_search_Halves(new_atlas_search_Cell(self.left, self.right, self.top, n_3), new_atlas_search_Cell(self.left,
+                self.right, n_3, self.bottom));
+    }
+    return halves_5;
 }
 
 /* Whether both sides of a size are before the ends.
@@ -44645,6 +44656,16 @@ SMALL atlas_search_Link atlas_store_slots_entry_SlotEntry_up(const atlas_store_S
     return self->up;
 }
 
+/* crates/atlas_store/src/slots/entry.rt */
+SMALL atlas_search_Link atlas_store_slots_entry_SlotEntry_left(const atlas_store_Slot *self) {
+    return self->left;
+}
+
+/* crates/atlas_store/src/slots/entry.rt */
+SMALL atlas_search_Link atlas_store_slots_entry_SlotEntry_right(const atlas_store_Slot *self) {
+    return self->right;
+}
+
 /* crates/atlas_search/src/heap.rt */
 SMALL bool atlas_search_heap_is_fork_Slot(slice_Slot entries, atlas_search_Link at) {
     return atlas_store_slots_entry_SlotEntry_is_fork(((atlas_store_Slot *)entries.at + (uint64_t)at.number));
@@ -44864,33 +44885,38 @@ SMALL bool atlas_search_best_Best_passes(const atlas_search_Best *self, uint64_t
     return self->bar <= corner;
 }
 
-/* Shows the box of an entry, which has this corner.
+/* Shows the box of an entry, which has this corner. Answers whether it is the best now and has an equal side: no box that begins there
+ * or later is better then.
  * crates/atlas_search/src/best.rt
  */
-SMALL void atlas_search_best_Best_look(atlas_search_Best *self, atlas_model_Rectangle rectangle, uint64_t corner, atlas_search_Link at) {
+SMALL bool atlas_search_best_Best_look(atlas_search_Best *self, atlas_model_Rectangle rectangle, uint64_t corner, atlas_search_Link at) {
     uint32_t n_5;
     Option_u32 option_6;
     atlas_model_Size size_10;
     bool is_11;
     uint32_t n_12;
-    uint64_t n_13;
-    uint64_t n_17;
-    uint32_t n_18;
+    uint32_t n_13;
+    uint64_t n_14;
+    uint64_t n_18;
+    uint32_t n_19;
     option_6 = atlas_search_best_Best_rank_ahead(self, rectangle, corner);
     if (option_6.tag == 1u /* Some */) {
         n_5 = option_6.Some.field_0;
         size_10 = self->size;
         is_11 = self->is_large;
-        n_12 = n_5;
-        n_13 = corner;
+        n_12 = self->flip;
+        n_13 = n_5;
+        n_14 = corner;
         if (n_5 == 0u) {
-            n_17 = corner;
+            n_18 = corner;
         } else {
-            n_17 = UINT64_C(18446744073709551615);
+            n_18 = UINT64_C(18446744073709551615);
         }
-        n_18 = atlas_search_best_reach_of(self->is_large, n_5);
-        *self = new_atlas_search_Best(size_10, is_11, n_12, n_13, n_17, n_18, at);
+        n_19 = atlas_search_best_reach_of(self->is_large, n_5);
+        *self = new_atlas_search_Best(size_10, is_11, n_12, n_13, n_14, n_18, n_19, at);
+        return n_5 == 0u;
     }
+    return false;
 }
 
 /* crates/atlas_store/src/slots/entry.rt */
@@ -44912,77 +44938,35 @@ SMALL bool atlas_search_cells_Cell_is_beyond(atlas_search_Cell self, atlas_model
     return is_9;
 }
 
-/* Whether it is divided by width.
- * crates/atlas_search/src/cells.rt
- */
-SMALL bool atlas_search_cells_Cell_is_cut_wide(atlas_search_Cell self) {
-    uint32_t n_2;
-    uint32_t n_3;
-    bool is_5;
-    bool is_6;
-    n_2 = self.right - self.left;
-    n_3 = self.bottom - self.top;
-    if (n_2 <= n_3) {
-        is_6 = n_2 == 2u;
-        if (!is_6) {
-            is_6 = n_2 == n_3;
-        }
-        is_5 = is_6;
-    } else {
-        is_5 = n_3 != 2u;
-    }
-    return is_5;
-}
-
-/* Where sides are divided.
- * crates/atlas_search/src/cells.rt
- */
-SMALL uint32_t atlas_search_cells_middle(uint32_t first, uint32_t end) {
-    return core_int_u32_min(first + ((end - first) / 2u), 2u * first);
-}
-
-/* Whether a box of a size in this cell may be better than the best: it may fit, and leave no more over than the best does, or anything
- * where the request is large and the best has no equal side.
+/* Whether the request may fit a box of a size in this cell: both of its sides are before the ends.
  * crates/atlas_search/src/best.rt
  */
-SMALL bool atlas_search_best_Best_may_be_in(const atlas_search_Best *self, atlas_search_Cell cell) {
-    bool is_3;
-    bool is_8;
-    is_3 = atlas_search_cells_Cell_is_below_ends(cell, self->size);
-    if (!is_3) {
-        return false;
-    }
-    is_8 = atlas_search_cells_Cell_is_beyond(cell, self->size, self->reach);
-    return !is_8;
+SMALL bool atlas_search_best_Best_may_fit_in(const atlas_search_Best *self, atlas_search_Cell cell) {
+    return atlas_search_cells_Cell_is_below_ends(cell, self->size);
 }
 
-/* Shows the entries of a heap with this top and of sizes of a cell to a search, but for those that can't be the best. Of its halves
- * only those are entered that may have a better one.
+/* Shows the entries of a heap with this top and of sizes of a cell to a search, but for those that can't be the best.
  * crates/atlas_search/src/search.rt
  */
-PART void atlas_search_search_show_within_Slot(slice_Slot entries, atlas_search_Link at, atlas_search_Cell cell, atlas_search_Best *best) {
+SMALL void atlas_search_search_show_within_Slot(slice_Slot entries, atlas_search_Link at, atlas_search_Cell cell, atlas_search_Best *best) {
     const atlas_store_Slot *at_5;
-    atlas_search_Halves halves_6;
-    atlas_search_Link link_17;
-    atlas_search_Link link_24;
-    bool is_29;
     if (entries.len <= (uint64_t)at.number) {
         return;
     }
     at_5 = ((atlas_store_Slot *)entries.at + (uint64_t)at.number);
-    is_29 = atlas_search_search_show_entry_Slot(at_5, at, best);
-    if (!is_29) {
-        return;
+    if (atlas_search_search_show_entry_Slot(at_5, at, best)) {
+        atlas_search_search_show_below_Slot(entries, at_5, best, cell.left, cell.right, cell.top, cell.bottom);
     }
-    halves_6 = atlas_search_cells_Cell_halves(cell);
-    if (atlas_search_best_Best_may_be_in(best, halves_6.low)) {
-        link_17 = atlas_store_slots_entry_SlotEntry_left(at_5);
-        atlas_search_search_show_within_Slot(entries, link_17, halves_6.low, best);
-    }
-    if (atlas_search_best_Best_may_be_in(best, halves_6.high)) {
-        link_24 = atlas_store_slots_entry_SlotEntry_right(at_5);
-        atlas_search_search_show_within_Slot(entries, link_24, halves_6.high, best);
-    }
+}
+
+/* Whether a box of a size in this cell may leave no more over than the best does, or anything where the request is large and the best
+ * has no equal side.
+ * crates/atlas_search/src/best.rt
+ */
+SMALL bool atlas_search_best_Best_may_gain_in(const atlas_search_Best *self, atlas_search_Cell cell) {
+    bool is_3;
+    is_3 = atlas_search_cells_Cell_is_beyond(cell, self->size, self->reach);
+    return !is_3;
 }
 
 /* std_heap/src/lib.rt */
@@ -45201,7 +45185,7 @@ SMALL void guillotiere_c_Destruct_none_drop_FreeBox(guillotiere_FreeBox given_1)
 }
 
 /* Shows an entry to a search. Answers whether one that hangs below it may be better: where it is a fork, since else those have
- * its size and come no earlier, and where the best hasn't an equal side and comes no later.
+ * its size and come no earlier, and where neither it nor a best that comes no later has an equal side.
  * crates/atlas_search/src/search.rt
  */
 SMALL bool atlas_search_search_show_entry_FreeBox(const guillotiere_FreeBox *entry, atlas_search_Link at, atlas_search_Best *best) {
@@ -45212,19 +45196,29 @@ SMALL bool atlas_search_search_show_entry_FreeBox(const guillotiere_FreeBox *ent
     if (atlas_search_best_Best_passes(best, n_5)) {
         return false;
     }
-    atlas_search_best_Best_look(best, rectangle_4, n_5, at);
-    if (atlas_search_best_Best_passes(best, n_5)) {
+    if (atlas_search_best_Best_look(best, rectangle_4, n_5, at)) {
         return false;
     }
     return guillotiere_simple_boxes_FreeBoxEntry_is_fork(entry);
 }
 
-/* The same, where the cell may have no better one. Most halves of lists have none, so that this is a call of its own.
+/* Shows what hangs below a fork of sizes of a cell to a search, but for what can't be the best: of the halves only those are entered that
+ * may have a better one.
  * crates/atlas_search/src/search.rt
  */
-SMALL void atlas_search_search_show_FreeBox(slice_FreeBox entries, atlas_search_Link at, atlas_search_Cell cell, atlas_search_Best *best) {
-    if (atlas_search_best_Best_may_be_in(best, cell)) {
-        atlas_search_search_show_within_FreeBox(entries, at, cell, best);
+SMALL void atlas_search_search_show_halves_FreeBox(slice_FreeBox entries, const guillotiere_FreeBox *fork, atlas_search_Cell cell,
+        atlas_search_Best *best) {
+    atlas_search_Halves halves_5;
+    atlas_search_Link link_10;
+    atlas_search_Link link_17;
+    halves_5 = atlas_search_cells_Cell_halves(cell);
+    if (atlas_search_best_Best_may_fit_in(best, halves_5.low)) {
+        link_10 = guillotiere_simple_boxes_FreeBoxEntry_left(fork);
+        atlas_search_search_show_within_FreeBox(entries, link_10, halves_5.low, best);
+    }
+    if (atlas_search_best_Best_may_gain_in(best, halves_5.high)) {
+        link_17 = guillotiere_simple_boxes_FreeBoxEntry_right(fork);
+        atlas_search_search_show_within_FreeBox(entries, link_17, halves_5.high, best);
     }
 }
 
@@ -45351,6 +45345,35 @@ SMALL atlas_search_Link atlas_search_heap_close_FreeBox(slice_FreeBox_2 entries,
         return links_4.left;
     }
     return atlas_search_heap_meld_FreeBox(new_slice_FreeBox_2(entries.at, entries.len), links_4.left, links_4.right, up);
+}
+
+/* Whether it is divided by width.
+ * crates/atlas_search/src/cells.rt
+ */
+SMALL bool atlas_search_cells_Cell_is_cut_wide(atlas_search_Cell self) {
+    uint32_t n_2;
+    uint32_t n_3;
+    bool is_5;
+    bool is_6;
+    n_2 = self.right - self.left;
+    n_3 = self.bottom - self.top;
+    if (n_2 <= n_3) {
+        is_6 = n_2 == 2u;
+        if (!is_6) {
+            is_6 = n_2 == n_3;
+        }
+        is_5 = is_6;
+    } else {
+        is_5 = n_3 != 2u;
+    }
+    return is_5;
+}
+
+/* Where sides are divided.
+ * crates/atlas_search/src/cells.rt
+ */
+SMALL uint32_t atlas_search_cells_middle(uint32_t first, uint32_t end) {
+    return core_int_u32_min(first + ((end - first) / 2u), 2u * first);
 }
 
 /* guillotiere::Destruct++none::drop */
@@ -48873,18 +48896,18 @@ SMALL void atlas_search_heap_hang_Slot(slice_Slot_2 entries, atlas_search_Link t
 SMALL Option_u32 atlas_search_best_Best_rank_ahead(const atlas_search_Best *self, atlas_model_Rectangle rectangle, uint64_t corner) {
     uint32_t n_4;
     uint32_t n_5;
-    Option_u32 option_9;
+    Option_u32 option_10;
     n_4 = atlas_search_choice_margin_in(rectangle, self->size);
     if ((int32_t)n_4 < (int32_t)0u) {
         return new_Option_u32_None();
     }
-    n_5 = atlas_search_best_rank(self->is_large, n_4);
+    n_5 = atlas_search_best_rank(self->flip, n_4);
     if (atlas_search_best_Best_is_beaten_by(self, n_5, corner)) {
-        option_9 = new_Option_u32_Some(n_5);
+        option_10 = new_Option_u32_Some(n_5);
     } else {
-        option_9 = new_Option_u32_None();
+        option_10 = new_Option_u32_None();
     }
-    return option_9;
+    return option_10;
 }
 
 /* How great the least margin of a box may be that is better than the best of this rank. For a large request that doesn't end, unless there
@@ -48902,6 +48925,14 @@ SMALL uint32_t atlas_search_best_reach_of(bool is_large, uint32_t rank) {
         return 4294967295u;
     }
     return rank;
+}
+
+/* A call of its own for each fork that is entered. The cell comes by its four sides, since a whole one would go through memory.
+ * crates/atlas_search/src/search.rt
+ */
+PART void atlas_search_search_show_below_Slot(slice_Slot entries, const atlas_store_Slot *fork, atlas_search_Best *best, uint32_t left,
+        uint32_t right, uint32_t top, uint32_t bottom) {
+    atlas_search_search_show_halves_Slot(entries, fork, new_atlas_search_Cell(left, right, top, bottom), best);
 }
 
 /* core::slots::lends::with_slots */
@@ -49104,33 +49135,18 @@ SMALL bool guillotiere_simple_boxes_FreeBoxEntry_is_fork(const guillotiere_FreeB
     return self->is_fork;
 }
 
-/* Shows the entries of a heap with this top and of sizes of a cell to a search, but for those that can't be the best. Of its halves
- * only those are entered that may have a better one.
+/* Shows the entries of a heap with this top and of sizes of a cell to a search, but for those that can't be the best.
  * crates/atlas_search/src/search.rt
  */
-PART void atlas_search_search_show_within_FreeBox(slice_FreeBox entries, atlas_search_Link at, atlas_search_Cell cell,
+SMALL void atlas_search_search_show_within_FreeBox(slice_FreeBox entries, atlas_search_Link at, atlas_search_Cell cell,
         atlas_search_Best *best) {
     const guillotiere_FreeBox *at_5;
-    atlas_search_Halves halves_6;
-    atlas_search_Link link_17;
-    atlas_search_Link link_24;
-    bool is_29;
     if (entries.len <= (uint64_t)at.number) {
         return;
     }
     at_5 = ((guillotiere_FreeBox *)entries.at + (uint64_t)at.number);
-    is_29 = atlas_search_search_show_entry_FreeBox(at_5, at, best);
-    if (!is_29) {
-        return;
-    }
-    halves_6 = atlas_search_cells_Cell_halves(cell);
-    if (atlas_search_best_Best_may_be_in(best, halves_6.low)) {
-        link_17 = guillotiere_simple_boxes_FreeBoxEntry_left(at_5);
-        atlas_search_search_show_within_FreeBox(entries, link_17, halves_6.low, best);
-    }
-    if (atlas_search_best_Best_may_be_in(best, halves_6.high)) {
-        link_24 = guillotiere_simple_boxes_FreeBoxEntry_right(at_5);
-        atlas_search_search_show_within_FreeBox(entries, link_24, halves_6.high, best);
+    if (atlas_search_search_show_entry_FreeBox(at_5, at, best)) {
+        atlas_search_search_show_below_FreeBox(entries, at_5, best, cell.left, cell.right, cell.top, cell.bottom);
     }
 }
 
@@ -51991,17 +52007,11 @@ SMALL void atlas_search_heap_swap_below_Slot(slice_Slot_2 entries, atlas_search_
 /* The rank of a box with this least margin.
  * crates/atlas_search/src/best.rt
  */
-SMALL uint32_t atlas_search_best_rank(bool is_large, uint32_t margin) {
-    uint32_t n_3;
-    if (is_large) {
-        if ((int32_t)0u < (int32_t)margin) {
-            n_3 = 2147483647u - margin;
-            goto after_1;
-        }
+SMALL uint32_t atlas_search_best_rank(uint32_t flip, uint32_t margin) {
+    if (margin == 0u) {
+        return 0u;
     }
-    n_3 = margin;
-after_1:;
-    return n_3;
+    return margin ^ flip;
 }
 
 /* Whether a box of this rank with this corner is to be kept rather than the best one.
@@ -52153,6 +52163,14 @@ SMALL void core_mem_swap_Allocation(atlas_model_Allocation *x, atlas_model_Alloc
     allocation_5 = *at_3;
     *at_3 = *at_4;
     *at_4 = allocation_5;
+}
+
+/* A call of its own for each fork that is entered. The cell comes by its four sides, since a whole one would go through memory.
+ * crates/atlas_search/src/search.rt
+ */
+PART void atlas_search_search_show_below_FreeBox(slice_FreeBox entries, const guillotiere_FreeBox *fork, atlas_search_Best *best,
+        uint32_t left, uint32_t right, uint32_t top, uint32_t bottom) {
+    atlas_search_search_show_halves_FreeBox(entries, fork, new_atlas_search_Cell(left, right, top, bottom), best);
 }
 
 /* Drops the values from `from` up to `to`, in that order.
