@@ -35,11 +35,13 @@ class Edit:
                 old = None
             else:
                 raise SystemExit(f"{folder.name}/{FILE}: this line of {self.name or 'no edit'} isn't read: {line}")
+        self.is_in_cycle = False
         # A pair may change what an earlier pair made, and then no line of the source has its text.
         found = [self.place(file, old) for file, old, _ in self.pairs if not old.startswith("use ")]
         self.places = list(dict.fromkeys(it for it in found if it))
-        # What it changes outside of functions may show in any of them.
-        self.is_apart = any(old.startswith("use ") for _, old, _ in self.pairs) or any(not path for _, _, path in self.places)
+        # What it changes outside of functions may show in any of them, and in a function of a cycle of calls in all of that cycle.
+        self.is_apart = self.is_in_cycle or any(old.startswith("use ") for _, old, _ in self.pairs) or any(
+            not path for _, _, path in self.places)
 
     def place(self, file, text):
         """The file and the function round the line where this text stands, with its path as the check prints it."""
@@ -51,6 +53,7 @@ class Edit:
         if not match:
             return None
         is_function = bool(match[1])
+        self.is_in_cycle |= is_function and names_cycle(lines, number)
         return file, match[1] or match[2], path_of(file, lines, number, match[1]) if is_function else ""
 
     def apply(self, texts):
@@ -68,6 +71,15 @@ class Edit:
     def checked(self):
         """What to ask the check for: the functions that refuse it."""
         return self.by or [path for _, _, path in self.places if path]
+
+
+def names_cycle(lines, number):
+    """Whether an attribute above the function at this line names a cycle of calls, in which it stands with others."""
+    while number > 0 and lines[number - 1].lstrip().startswith("#["):
+        number -= 1
+        if lines[number].lstrip().startswith("#[cycle("):
+            return True
+    return False
 
 
 def head_of(lines, number):
@@ -88,7 +100,8 @@ def path_of(file, lines, number, function):
 
 
 def functions_of(crate):
-    """The paths of a crate's functions, with their modules: those of modules, and those of types; not those of traits."""
+    """The paths of a crate's functions, with their modules: those of modules, and those of types; not those of traits, nor those of a cycle
+    of calls, which are proved together."""
     files = {path: path.read_text(encoding="utf-8").splitlines() for path in sorted((crate.folder / "src").rglob("*.rt"))}
     modules, found = {}, []
     for path, lines in files.items():
@@ -97,7 +110,7 @@ def functions_of(crate):
     for path, lines in files.items():
         for number, line in enumerate(lines):
             match = FUNCTION.match(line)
-            if match and match[1]:
+            if match and match[1] and not names_cycle(lines, number):
                 name = path_of(str(path.relative_to(crate.folder)), lines, number, match[1])
                 of_type = name.split("::")[0] if line.startswith(" ") else None
                 found += ["::".join([*modules.get(of_type, []), name])] if not of_type or of_type in modules else []
@@ -112,7 +125,8 @@ def function_of(file):
 
 class Holes:
     """The functions of a crate that have a hole in place of their proofs while others are checked, so that these proofs aren't read: all
-    that are written there, or have a proof; but for those that call themselves: their proof stands in a folder with a plus, and stays."""
+    that are written there, or have a proof; but for those that call themselves, or one another in a cycle: their proof stands in a folder
+    with a plus, and stays."""
 
     def __init__(self, crate, files):
         """`files` are the names of the crate's, below its folder."""

@@ -8,15 +8,16 @@ from crates import Crate
 from edit import FILE, edits_of
 from trial import Trial
 
-# A crate of five functions, of which one has no proof yet and one calls itself, and with a proof of one that is written nowhere, as what is
-# derived is. One of its edits is tried over the whole crate, and one over `lesser` alone.
+# A crate of seven functions, of which one has no proof yet, one calls itself and two call one another, and with a proof of one that is
+# written nowhere, as what is derived is. One of its edits is tried over the whole crate, and one over `lesser` alone.
 FILES_ABOVE = {
-    "src/lib.rt": "\n\n".join(["const STEP: u8 = 1;", *(f"pub fn {it}() {{}}" for it in ("lesser", "least", "gap", "walk", "after"))]),
+    "src/lib.rt": "\n\n".join(["const STEP: u8 = 1;", *(f"pub fn {it}() {{}}" for it in ("lesser", "least", "gap", "walk", "after")),
+                               *(f"#[cycle(round)]\n#[inline(never)]\nfn {it}() {{}}" for it in ("turn", "twist"))]),
     "src/one.rt": "one",
     "specs/Lib.antt": "",
     "proofs/Uses.antt": "use Rattle.below.proofs.Lemmas.{known, sum}",
     **{f"proofs/{it}.antt": "returns c = refl\n"
-       for it in ("lesser/Answers", "least/Answers", "after/Proof", "+walk/Proof", "clone/Answers")},
+       for it in ("lesser/Answers", "least/Answers", "after/Proof", "+walk/Proof", "+round/Answers", "clone/Answers")},
 }
 EDITS = """edit: after__step
 file: src/lib.rt
@@ -34,7 +35,8 @@ UNREAD = [("another answer of a function that it doesn't check", "proofs/least/A
           ("another proof of what is derived", "proofs/clone/Answers.antt")]
 READ = [("another answer of the function that it checks", "proofs/lesser/Answers.antt"),
         ("invariants of that", "proofs/lesser/Invariants.antt"), ("another proof of one that calls itself", "proofs/+walk/Proof.antt"),
-        ("another lemma", "proofs/Uses.antt"), ("a lemma beside a proof that isn't read", "proofs/least/Lemmas.antt"),
+        ("another answer of two that call one another", "proofs/+round/Answers.antt"), ("another lemma", "proofs/Uses.antt"),
+        ("a lemma beside a proof that isn't read", "proofs/least/Lemmas.antt"),
         ("a proof of what else is derived, so that it has a hole", "proofs/eq/Answers.antt"),
         ("a proof by which another one calls itself, so that it has none", "proofs/+gap/Proof.antt"),
         ("another file of sources", "src/two.rt"), ("another definition", "specs/Lib.antt")]
