@@ -254,7 +254,7 @@ impl Board {
     }
 }
 
-fn checker(rows: u32) -> Answers {
+fn column(rows: u32) -> Answers {
     let mut board = Board::filled(rows);
     board.free_others(0);
     board.free_others(1);
@@ -320,7 +320,7 @@ fn main() {
             "sprite-sorted" => sprite(size, true),
             "sheet" => sheet(Kind::Sprites, 2, 4096, size),
             "sheet-16384" => sheet(Kind::Glyphs, 1, 16384, size),
-            "checker" => checker(size),
+            "column" => column(size),
             "search" => search(size),
             "growth" => growth(size),
             "rearrange" => rearrange(size),

@@ -515,7 +515,6 @@ typedef struct Result_Asking_SheetError Result_Asking_SheetError;
 typedef struct tuple_u64_bool tuple_u64_bool;
 typedef struct atlas_search_Step atlas_search_Step;
 typedef struct atlas_search_Halves atlas_search_Halves;
-typedef struct atlas_search_Pair atlas_search_Pair;
 typedef struct Option_ref_Global Option_ref_Global;
 typedef struct std_collections_Found std_collections_Found;
 typedef struct Option_Found_2 Option_Found_2;
@@ -3625,12 +3624,6 @@ struct atlas_search_Step {
 struct atlas_search_Halves {
     atlas_search_Cell low;
     atlas_search_Cell high;
-};
-
-/* atlas_search::heap::Pair */
-struct atlas_search_Pair {
-    atlas_search_Link first;
-    atlas_search_Link rest;
 };
 
 struct Option_ref_Global {
@@ -8199,13 +8192,6 @@ MAKER atlas_search_Step new_atlas_search_Step(uint32_t first, uint32_t end) {
     return it;
 }
 
-MAKER atlas_search_Pair new_atlas_search_Pair(atlas_search_Link first, atlas_search_Link rest) {
-    atlas_search_Pair it;
-    it.first = first;
-    it.rest = rest;
-    return it;
-}
-
 MAKER atlas_search_Halves new_atlas_search_Halves(atlas_search_Cell low, atlas_search_Cell high) {
     atlas_search_Halves it;
     it.low = low;
@@ -10106,7 +10092,7 @@ PART Result_Option_Allocation_AtlasError atlas_allocator_atlas_AtlasAllocator_re
         atlas_model_Size requested_size);
 SMALL uint32_t atlas_model_allocation_AllocId_serialize(const atlas_model_AllocId *self);
 SMALL bool atlas_allocator_atlas_AtlasAllocator_is_live(const atlas_allocator_AtlasAllocator *self, atlas_model_AllocId id);
-SMALL void atlas_allocator_atlas_AtlasAllocator_free(atlas_allocator_AtlasAllocator *self, atlas_model_AllocId id);
+PART void atlas_allocator_atlas_AtlasAllocator_free(atlas_allocator_AtlasAllocator *self, atlas_model_AllocId id);
 SMALL slice_Slot atlas_store_store_Store_slots(const atlas_store_Store *self);
 SMALL Option_u64 atlas_store_slots_walks_named_slot(slice_Slot slots, atlas_model_AllocId id);
 SMALL ControlFlow_u64 core_option_OptionTry_branch_u64(Option_u64 self);
@@ -10529,7 +10515,7 @@ SMALL bool atlas_model_geometry_Size_is_positive(const atlas_model_Size *self);
 SMALL Result_Inserted_CacheError atlas_cache_cache_TextureCache_add_blank_u64_BuildHasherDefault_FoldHasher_FoldHasher(atlas_cache_TextureCache_u64_BuildHasherDefault_FoldHasher_FoldHasher *self, uint64_t key, atlas_model_Size size);
 SMALL Option_Size atlas_cache_options_CacheOptions_asked(const atlas_cache_CacheOptions *self, atlas_model_Size size);
 SMALL Result_Inserted_CacheError atlas_cache_cache_TextureCache_insert_new_u64_BuildHasherDefault_FoldHasher_FoldHasher(atlas_cache_TextureCache_u64_BuildHasherDefault_FoldHasher_FoldHasher *self, uint64_t key, atlas_model_Size size, atlas_model_Size asked, Vec_Slot *changes);
-PART void atlas_cache_cache_holding_take_out_u64_BuildHasherDefault_FoldHasher_FoldHasher(atlas_cache_Rooms *rooms,
+SMALL void atlas_cache_cache_holding_take_out_u64_BuildHasherDefault_FoldHasher_FoldHasher(atlas_cache_Rooms *rooms,
         atlas_entries_Entries_u64_BuildHasherDefault_FoldHasher_FoldHasher *entries, uint32_t number, atlas_entries_Entry_u64 entry);
 SMALL const atlas_cache_CacheChange_u64 *std_alloc_vec_derefs_VecIndexUsize_index_CacheChange_u64(const Vec_Slot *self, uint64_t index);
 SMALL void atlas_entries_entries_Entries_clear_u64_BuildHasherDefault_FoldHasher_FoldHasher(atlas_entries_Entries_u64_BuildHasherDefault_FoldHasher_FoldHasher *self);
@@ -10988,7 +10974,7 @@ SMALL atlas_search_Mask atlas_search_marks_Marks_column(const atlas_search_Marks
 SMALL uint32_t atlas_search_best_flip_of(bool is_large);
 SMALL atlas_search_Mask atlas_search_masks_Mask_below(atlas_search_Mask self, uint64_t k);
 SMALL void atlas_search_search_search_row_Slot(slice_Slot entries, const atlas_search_Table *table, uint64_t row,
-        atlas_search_Mask columns, bool is_larger, atlas_search_Best *best);
+        atlas_search_Mask columns, atlas_search_Best *best);
 SMALL void atlas_search_search_search_column_Slot(slice_Slot entries, const atlas_search_Table *table, uint64_t column,
         atlas_search_Mask rows, atlas_search_Best *best);
 SMALL bool atlas_search_best_Best_has_equal_side(const atlas_search_Best *self);
@@ -11104,7 +11090,7 @@ PART Result_u32_CacheError atlas_entries_entries_Entries_push_u64_BuildHasherDef
 SMALL ControlFlow_ErrResidual_CacheError_u32 core_result_ResultTry_branch_u32_CacheError(Result_u32_CacheError self);
 SMALL Result_Entry_u64_CacheError core_result_ResultFromResidualErrResidual_from_residual_Entry_u64_CacheError_CacheError(ErrResidual_CacheError residual);
 SMALL Option_u32 atlas_cache_options_asked_side(uint32_t side, uint32_t padding, uint32_t alignment, uint32_t most);
-PART Result_Option_Place_CacheError atlas_cache_cache_TextureCache_add_u64_BuildHasherDefault_FoldHasher_FoldHasher(atlas_cache_TextureCache_u64_BuildHasherDefault_FoldHasher_FoldHasher *self, uint64_t key, atlas_model_Size size, atlas_model_Size asked, uint64_t from, uint64_t to);
+SMALL Result_Option_Place_CacheError atlas_cache_cache_TextureCache_add_u64_BuildHasherDefault_FoldHasher_FoldHasher(atlas_cache_TextureCache_u64_BuildHasherDefault_FoldHasher_FoldHasher *self, uint64_t key, atlas_model_Size size, atlas_model_Size asked, uint64_t from, uint64_t to);
 SMALL ControlFlow_ErrResidual_CacheError_Option_Place core_result_ResultTry_branch_Option_Place_CacheError(Result_Option_Place_CacheError self);
 SMALL Result_Option_Inserted_CacheError atlas_cache_cache_TextureCache_insert_cleared_u64_BuildHasherDefault_FoldHasher_FoldHasher(atlas_cache_TextureCache_u64_BuildHasherDefault_FoldHasher_FoldHasher *self, uint64_t key, atlas_model_Size size, atlas_model_Size asked, uint32_t left, Vec_Slot *changes);
 SMALL ControlFlow_ErrResidual_CacheError_Option_Inserted core_result_ResultTry_branch_Option_Inserted_CacheError(Result_Option_Inserted_CacheError self);
@@ -11346,11 +11332,13 @@ SMALL uint32_t core_int_u32_min(uint32_t given_1, uint32_t given_2);
 SMALL uint64_t atlas_search_bands_step(uint32_t side);
 SMALL uint64_t atlas_search_bands_passed(uint32_t side, uint32_t threshold);
 SMALL void atlas_search_search_search_list_Slot(slice_Slot entries, const atlas_search_Table *table, atlas_search_Place place,
-        bool is_larger, atlas_search_Best *best);
+        atlas_search_Best *best);
 SMALL atlas_search_Mask atlas_search_search_columns_near(const atlas_search_Scale *options, uint64_t row, atlas_search_Mask columns,
         const atlas_search_Best *best);
+SMALL void atlas_search_search_search_larger_Slot(slice_Slot entries, const atlas_search_Table *table, uint64_t row,
+        atlas_search_Mask columns, atlas_search_Best *best);
 SMALL uint64_t atlas_search_table_Table_list_of_few(const atlas_search_Table *self, uint64_t i);
-SMALL void atlas_search_search_show_list_Slot(slice_Slot entries, atlas_search_Link top, bool is_larger, atlas_search_Best *best);
+SMALL void atlas_search_search_show_list_Slot(slice_Slot entries, atlas_search_Link top, atlas_search_Best *best);
 SMALL uint64_t std_alloc_vec_least_capacity_Allocation(void);
 SMALL bool std_alloc_vec_Vec_move_to_Allocation(Vec_Slot *self, uint64_t cap);
 SMALL void std_alloc_vec_Vec_truncate_within_Allocation_3(Vec_Slot *self, uint64_t n);
@@ -11375,7 +11363,7 @@ SMALL atlas_model_AllocId core_slots_Slots_take_AllocId(Slots_CacheChange_u64 *s
 SMALL void core_mem_drop_AllocId(atlas_model_AllocId x);
 SMALL void std_alloc_vec_opened_drop_run_FreeBox(Slots_CacheChange_u64 *row, uint64_t from, uint64_t to);
 SMALL void atlas_search_search_search_row_FreeBox(slice_FreeBox entries, const atlas_search_Table *table, uint64_t row,
-        atlas_search_Mask columns, bool is_larger, atlas_search_Best *best);
+        atlas_search_Mask columns, atlas_search_Best *best);
 SMALL void atlas_search_search_search_column_FreeBox(slice_FreeBox entries, const atlas_search_Table *table, uint64_t column,
         atlas_search_Mask rows, atlas_search_Best *best);
 SMALL void atlas_search_search_search_rows_FreeBox(slice_FreeBox entries, const atlas_search_Table *table,
@@ -11387,15 +11375,21 @@ COLD bool std_alloc_vec_Vec_grow_amortized_FreeBox(Vec_Slot *self, uint64_t addi
 SMALL void std_alloc_vec_opened_drop_run_FreeBox_2(Slots_CacheChange_u64 *row, uint64_t from, uint64_t to);
 SMALL void std_alloc_vec_Vec_put_FreeBox(Vec_Slot *self, guillotiere_FreeBox x);
 SMALL atlas_search_Link atlas_search_table_Table_first(const atlas_search_Table *self, uint64_t number);
-SMALL bool atlas_search_heap_is_place_FreeBox(slice_FreeBox entries, atlas_search_Link near_, atlas_search_Link at);
+SMALL atlas_model_Size atlas_search_heap_size_at_FreeBox(slice_FreeBox entries, atlas_search_Link at);
 SMALL void atlas_search_heap_put_FreeBox(slice_FreeBox_2 entries, atlas_search_Link at, atlas_search_Link up, atlas_search_Link left,
         atlas_search_Link right, bool is_fork);
+SMALL bool atlas_search_heap_is_place_FreeBox(slice_FreeBox entries, atlas_search_Link near_, atlas_search_Link at);
 SMALL atlas_search_Links atlas_search_heap_links_at_FreeBox(slice_FreeBox entries, atlas_search_Link at);
 SMALL void atlas_search_heap_relink_FreeBox(slice_FreeBox_2 entries, atlas_search_Link at, atlas_search_Link up, atlas_search_Link left,
         atlas_search_Link right);
-SMALL atlas_model_Size atlas_search_heap_size_at_FreeBox(slice_FreeBox entries, atlas_search_Link at);
+SMALL bool atlas_search_heap_is_alike_FreeBox(slice_FreeBox entries, atlas_search_Link top, atlas_search_Link at);
+SMALL atlas_search_Link atlas_search_heap_meld_FreeBox(slice_FreeBox_2 entries, atlas_search_Link one, atlas_search_Link other,
+        atlas_search_Link up);
 SMALL atlas_search_Cell atlas_search_cells_Cell_around(atlas_model_Size size);
-PART atlas_search_Link atlas_search_heap_sort_in_FreeBox(slice_FreeBox_2 entries, atlas_search_Cell cell, atlas_search_Link up,
+SMALL bool atlas_search_heap_sorting_is_fork_before_FreeBox(slice_FreeBox entries, atlas_search_Link top, atlas_search_Link at);
+PART void atlas_search_heap_sorting_sort_below_FreeBox(slice_FreeBox_2 entries, atlas_search_Link above, atlas_search_Link at,
+        uint32_t left, uint32_t right, uint32_t top, uint32_t bottom);
+PART atlas_search_Link atlas_search_heap_sorting_sort_in_FreeBox(slice_FreeBox_2 entries, atlas_search_Cell cell, atlas_search_Link up,
         atlas_search_Link top, atlas_search_Link at);
 SMALL void atlas_search_table_raise_in(Vec_Slot *heads, Vec_Slot *marks, uint64_t emptied, atlas_search_Place at, atlas_search_Link first);
 COLD void atlas_search_table_set_head_in(array_u16_8 *only, uint64_t number, atlas_search_Link first);
@@ -11682,7 +11676,7 @@ SMALL void guillotiere_c_Destruct_none_drop_Slot(atlas_store_Slot given_1);
 SMALL void guillotiere_c_Destruct_none_drop_Link(atlas_search_Link given_1);
 SMALL void guillotiere_c_Destruct_none_drop_Marks(const atlas_search_Marks given_1);
 SMALL atlas_search_Links atlas_search_heap_links_at_Slot(slice_Slot entries, atlas_search_Link at);
-PART atlas_search_Link atlas_search_heap_leave_Slot(slice_Slot_2 entries, atlas_search_Link at, atlas_search_Link up);
+SMALL atlas_search_Link atlas_search_heap_leaving_leave_Slot(slice_Slot_2 entries, atlas_search_Link at, atlas_search_Link up);
 SMALL void atlas_search_heap_relink_Slot(slice_Slot_2 entries, atlas_search_Link at, atlas_search_Link up, atlas_search_Link left,
         atlas_search_Link right);
 SMALL void atlas_search_table_Table_set_first(atlas_search_Table *self, uint64_t number, atlas_search_Link first);
@@ -11693,18 +11687,23 @@ SMALL atlas_store_Node atlas_store_slots_placing_cut_inside(slice_Slot_2 slots, 
         uint32_t extent, atlas_search_Link front, atlas_store_NodeKind kind, atlas_search_Link back);
 SMALL atlas_search_Link atlas_store_slots_join_next(slice_Slot_2 slots, atlas_search_Link slot);
 SMALL void atlas_store_slots_lists_set_right(slice_Slot_2 slots, atlas_search_Link at, atlas_search_Link right);
-SMALL bool atlas_search_heap_is_place_Slot(slice_Slot entries, atlas_search_Link near_, atlas_search_Link at);
+SMALL atlas_model_Size atlas_search_heap_size_at_Slot(slice_Slot entries, atlas_search_Link at);
 SMALL void atlas_search_heap_put_Slot(slice_Slot_2 entries, atlas_search_Link at, atlas_search_Link up, atlas_search_Link left,
         atlas_search_Link right, bool is_fork);
-SMALL atlas_model_Size atlas_search_heap_size_at_Slot(slice_Slot entries, atlas_search_Link at);
-PART atlas_search_Link atlas_search_heap_sort_in_Slot(slice_Slot_2 entries, atlas_search_Cell cell, atlas_search_Link up,
+SMALL bool atlas_search_heap_is_place_Slot(slice_Slot entries, atlas_search_Link near_, atlas_search_Link at);
+SMALL bool atlas_search_heap_is_alike_Slot(slice_Slot entries, atlas_search_Link top, atlas_search_Link at);
+SMALL atlas_search_Link atlas_search_heap_meld_Slot(slice_Slot_2 entries, atlas_search_Link one, atlas_search_Link other,
+        atlas_search_Link up);
+SMALL bool atlas_search_heap_sorting_is_fork_before_Slot(slice_Slot entries, atlas_search_Link top, atlas_search_Link at);
+PART void atlas_search_heap_sorting_sort_below_Slot(slice_Slot_2 entries, atlas_search_Link above, atlas_search_Link at, uint32_t left,
+        uint32_t right, uint32_t top, uint32_t bottom);
+PART atlas_search_Link atlas_search_heap_sorting_sort_in_Slot(slice_Slot_2 entries, atlas_search_Cell cell, atlas_search_Link up,
         atlas_search_Link top, atlas_search_Link at);
 SMALL atlas_store_Slot atlas_store_slots_lists_fresh_slot(void);
 SMALL void atlas_store_slots_lists_renew(slice_Slot_2 slots, atlas_search_Link at);
 SMALL Option_Size atlas_search_best_Best_farthest(const atlas_search_Best *self);
+SMALL void atlas_search_search_show_larger_Slot(slice_Slot entries, atlas_search_Link top, atlas_search_Best *best);
 SMALL bool atlas_search_search_show_entry_Slot(const atlas_store_Slot *entry, atlas_search_Link at, atlas_search_Best *best);
-SMALL uint64_t atlas_search_best_corner(atlas_model_Rectangle rectangle);
-SMALL bool atlas_search_best_Best_ends_in(const atlas_search_Best *self, atlas_search_Cell cell, uint64_t corner);
 SMALL void atlas_search_search_show_halves_Slot(slice_Slot entries, const atlas_store_Slot *fork, atlas_search_Cell cell,
         atlas_search_Best *best);
 SMALL bool std_alloc_room_may_hold_Allocation(uint64_t n);
@@ -11732,28 +11731,30 @@ SMALL void guillotiere_c_Destruct_none_drop_AllocId(atlas_model_AllocId given_1)
 SMALL guillotiere_FreeBox core_slots_Slots_take_FreeBox(Slots_CacheChange_u64 *self, uint64_t i);
 SMALL void core_mem_drop_FreeBox(guillotiere_FreeBox x);
 SMALL void atlas_search_search_search_list_FreeBox(slice_FreeBox entries, const atlas_search_Table *table, atlas_search_Place place,
-        bool is_larger, atlas_search_Best *best);
-SMALL void atlas_search_search_show_list_FreeBox(slice_FreeBox entries, atlas_search_Link top, bool is_larger, atlas_search_Best *best);
+        atlas_search_Best *best);
+SMALL void atlas_search_search_search_larger_FreeBox(slice_FreeBox entries, const atlas_search_Table *table, uint64_t row,
+        atlas_search_Mask columns, atlas_search_Best *best);
+SMALL void atlas_search_search_show_list_FreeBox(slice_FreeBox entries, atlas_search_Link top, atlas_search_Best *best);
 SMALL atlas_search_Link atlas_search_heap_remove_FreeBox(slice_FreeBox_2 entries, atlas_search_Link at);
 SMALL uint64_t std_alloc_vec_least_capacity_FreeBox(void);
 SMALL void core_mem_drop_FreeBox_2(guillotiere_FreeBox x);
 COLD atlas_search_Link atlas_search_table_head_in(const array_u16_8 *only, uint64_t number);
-SMALL bool atlas_search_heap_is_alike_FreeBox(slice_FreeBox entries, atlas_search_Link top, atlas_search_Link at);
-SMALL uint64_t atlas_search_heap_corner_at_FreeBox(slice_FreeBox entries, atlas_search_Link at);
 SMALL void guillotiere_simple_boxes_FreeBoxLinked_set_links(guillotiere_FreeBox *self, atlas_search_Link up, atlas_search_Link left,
         atlas_search_Link right);
 SMALL void guillotiere_simple_boxes_FreeBoxLinked_set_fork(guillotiere_FreeBox *self, bool is_fork);
+SMALL uint64_t atlas_search_heap_corner_at_FreeBox(slice_FreeBox entries, atlas_search_Link at);
 SMALL atlas_search_Link guillotiere_simple_boxes_FreeBoxEntry_up(const guillotiere_FreeBox *self);
 SMALL atlas_search_Link guillotiere_simple_boxes_FreeBoxEntry_left(const guillotiere_FreeBox *self);
 SMALL atlas_search_Link guillotiere_simple_boxes_FreeBoxEntry_right(const guillotiere_FreeBox *self);
+SMALL bool atlas_search_heap_is_fork_FreeBox(slice_FreeBox entries, atlas_search_Link at);
+SMALL void atlas_search_heap_set_up_FreeBox(slice_FreeBox_2 entries, atlas_search_Link at, atlas_search_Link up);
+SMALL void atlas_search_heap_hang_FreeBox(slice_FreeBox_2 entries, atlas_search_Link top, atlas_search_Link part);
 SMALL atlas_search_Step atlas_search_cells_step_around(uint32_t side);
-SMALL atlas_search_Link atlas_search_heap_meld_FreeBox(slice_FreeBox_2 entries, atlas_search_Link one, atlas_search_Link other,
-        atlas_search_Link up);
-SMALL void atlas_search_heap_make_fork_FreeBox(slice_FreeBox_2 entries, atlas_search_Cell cell, atlas_search_Link top);
-SMALL atlas_search_Pair atlas_search_heap_in_order_FreeBox(slice_FreeBox entries, atlas_search_Link one, atlas_search_Link other);
 SMALL atlas_search_Halves atlas_search_cells_Cell_halves(atlas_search_Cell self);
 SMALL bool atlas_search_cells_Cell_is_below_ends(atlas_search_Cell self, atlas_model_Size size);
-SMALL void atlas_search_heap_move_below_FreeBox(slice_FreeBox_2 entries, atlas_search_Link at, atlas_search_Link up);
+PART void atlas_search_heap_sorting_sink_FreeBox(slice_FreeBox_2 entries, atlas_search_Link up, atlas_search_Link below,
+        atlas_search_Link at, uint32_t left, uint32_t right, uint32_t top, uint32_t bottom);
+SMALL void atlas_search_heap_sorting_make_fork_FreeBox(slice_FreeBox_2 entries, atlas_search_Cell cell, atlas_search_Link top);
 SMALL void core_mem_drop_Link_4(atlas_search_Link x);
 SMALL void core_mem_drop_Marks_3(const atlas_search_Marks x);
 SMALL void std_alloc_vec_Vec_clear_Slot_6(Vec_Slot *self);
@@ -12024,26 +12025,30 @@ SMALL atlas_search_Link atlas_store_slots_entry_SlotEntry_left(const atlas_store
 SMALL atlas_search_Link atlas_store_slots_entry_SlotEntry_right(const atlas_store_Slot *self);
 SMALL bool atlas_search_heap_is_fork_Slot(slice_Slot entries, atlas_search_Link at);
 SMALL atlas_search_Link atlas_search_heap_close_Slot(slice_Slot_2 entries, atlas_search_Link at, atlas_search_Link up);
-SMALL bool atlas_search_heap_is_left_first_Slot(slice_Slot entries, atlas_search_Link left, atlas_search_Link right);
-SMALL void atlas_search_heap_set_up_Slot(slice_Slot_2 entries, atlas_search_Link at, atlas_search_Link up);
-SMALL void atlas_search_heap_move_below_Slot(slice_Slot_2 entries, atlas_search_Link at, atlas_search_Link up);
+SMALL bool atlas_search_heap_leaving_is_left_first_Slot(slice_Slot entries, atlas_search_Link left, atlas_search_Link right);
+PART void atlas_search_heap_leaving_lift_Slot(slice_Slot_2 entries, atlas_search_Link up, atlas_search_Link left, atlas_search_Link right,
+        bool is_left);
 SMALL void atlas_store_slots_entry_SlotLinked_set_links(atlas_store_Slot *self, atlas_search_Link up, atlas_search_Link left,
         atlas_search_Link right);
 SMALL void atlas_search_table_set_first_in(Vec_Slot *heads, Vec_Slot *marks, uint64_t *emptied, uint64_t number, atlas_search_Link first);
 SMALL tuple_Rectangle_Rectangle atlas_store_slots_placing_cut_area(atlas_model_Rectangle area, atlas_search_Orientation axis,
         uint32_t extent);
-SMALL bool atlas_search_heap_is_alike_Slot(slice_Slot entries, atlas_search_Link top, atlas_search_Link at);
-SMALL uint64_t atlas_search_heap_corner_at_Slot(slice_Slot entries, atlas_search_Link at);
 SMALL void atlas_store_slots_entry_SlotLinked_set_fork(atlas_store_Slot *self, bool is_fork);
-SMALL atlas_search_Link atlas_search_heap_meld_Slot(slice_Slot_2 entries, atlas_search_Link one, atlas_search_Link other,
-        atlas_search_Link up);
-SMALL void atlas_search_heap_make_fork_Slot(slice_Slot_2 entries, atlas_search_Cell cell, atlas_search_Link top);
-SMALL atlas_search_Pair atlas_search_heap_in_order_Slot(slice_Slot entries, atlas_search_Link one, atlas_search_Link other);
+SMALL uint64_t atlas_search_heap_corner_at_Slot(slice_Slot entries, atlas_search_Link at);
+SMALL void atlas_search_heap_set_up_Slot(slice_Slot_2 entries, atlas_search_Link at, atlas_search_Link up);
+SMALL void atlas_search_heap_hang_Slot(slice_Slot_2 entries, atlas_search_Link top, atlas_search_Link part);
+PART void atlas_search_heap_sorting_sink_Slot(slice_Slot_2 entries, atlas_search_Link up, atlas_search_Link below, atlas_search_Link at,
+        uint32_t left, uint32_t right, uint32_t top, uint32_t bottom);
+SMALL void atlas_search_heap_sorting_make_fork_Slot(slice_Slot_2 entries, atlas_search_Cell cell, atlas_search_Link top);
 SMALL uint32_t atlas_search_best_longer(uint32_t side, uint32_t more);
+SMALL uint64_t atlas_search_best_corner(atlas_model_Rectangle rectangle);
+SMALL bool atlas_search_best_Best_passes_larger(const atlas_search_Best *self, uint64_t corner);
+SMALL void atlas_search_best_Best_look_larger(atlas_search_Best *self, atlas_model_Rectangle rectangle, uint64_t corner,
+        atlas_search_Link at);
+SMALL bool atlas_store_slots_entry_SlotEntry_is_fork(const atlas_store_Slot *self);
+SMALL bool atlas_search_best_Best_ends_in(const atlas_search_Best *self, atlas_search_Cell cell, uint64_t corner);
 SMALL bool atlas_search_best_Best_passes(const atlas_search_Best *self, uint64_t corner);
 SMALL bool atlas_search_best_Best_look(atlas_search_Best *self, atlas_model_Rectangle rectangle, uint64_t corner, atlas_search_Link at);
-SMALL bool atlas_store_slots_entry_SlotEntry_is_fork(const atlas_store_Slot *self);
-SMALL bool atlas_search_cells_Cell_is_beyond(atlas_search_Cell self, atlas_model_Size size, uint32_t more);
 SMALL bool atlas_search_best_Best_may_fit_in(const atlas_search_Best *self, atlas_search_Cell cell);
 SMALL void atlas_search_search_show_within_Slot(slice_Slot entries, atlas_search_Link at, atlas_search_Cell cell, atlas_search_Best *best);
 SMALL bool atlas_search_best_Best_may_gain_in(const atlas_search_Best *self, atlas_search_Cell cell);
@@ -12065,18 +12070,20 @@ SMALL void atlas_allocator_Destruct_none_drop_Slot(atlas_store_Slot given_1);
 SMALL void atlas_allocator_Destruct_none_drop_Link(atlas_search_Link given_1);
 SMALL void atlas_allocator_Destruct_none_drop_Marks(const atlas_search_Marks given_1);
 SMALL void guillotiere_c_Destruct_none_drop_FreeBox(guillotiere_FreeBox given_1);
+SMALL void atlas_search_search_show_larger_FreeBox(slice_FreeBox entries, atlas_search_Link top, atlas_search_Best *best);
 SMALL bool atlas_search_search_show_entry_FreeBox(const guillotiere_FreeBox *entry, atlas_search_Link at, atlas_search_Best *best);
 SMALL void atlas_search_search_show_halves_FreeBox(slice_FreeBox entries, const guillotiere_FreeBox *fork, atlas_search_Cell cell,
         atlas_search_Best *best);
-PART atlas_search_Link atlas_search_heap_leave_FreeBox(slice_FreeBox_2 entries, atlas_search_Link at, atlas_search_Link up);
+SMALL atlas_search_Link atlas_search_heap_leaving_leave_FreeBox(slice_FreeBox_2 entries, atlas_search_Link at, atlas_search_Link up);
 SMALL void guillotiere_Destruct_none_drop_FreeBox(guillotiere_FreeBox given_1);
-SMALL bool atlas_search_heap_is_fork_FreeBox(slice_FreeBox entries, atlas_search_Link at);
+SMALL bool guillotiere_simple_boxes_FreeBoxEntry_is_fork(const guillotiere_FreeBox *self);
+SMALL void atlas_search_heap_hang_left_FreeBox(slice_FreeBox_2 entries, atlas_search_Link above, atlas_search_Link less);
+SMALL void atlas_search_heap_swap_below_FreeBox(slice_FreeBox_2 entries, atlas_search_Link above);
 SMALL atlas_search_Step atlas_search_cells_step_from(uint32_t side, uint32_t many);
-SMALL void atlas_search_heap_set_up_FreeBox(slice_FreeBox_2 entries, atlas_search_Link at, atlas_search_Link up);
-SMALL void atlas_search_heap_hang_FreeBox(slice_FreeBox_2 entries, atlas_search_Link top, atlas_search_Link part);
-SMALL atlas_search_Link atlas_search_heap_close_FreeBox(slice_FreeBox_2 entries, atlas_search_Link at, atlas_search_Link up);
 SMALL bool atlas_search_cells_Cell_is_cut_wide(atlas_search_Cell self);
 SMALL uint32_t atlas_search_cells_middle(uint32_t first, uint32_t end);
+SMALL void atlas_search_heap_move_below_FreeBox(slice_FreeBox_2 entries, atlas_search_Link at, atlas_search_Link up);
+SMALL atlas_search_Link atlas_search_heap_close_FreeBox(slice_FreeBox_2 entries, atlas_search_Link at, atlas_search_Link up);
 SMALL void guillotiere_Destruct_none_drop_Link(atlas_search_Link given_1);
 SMALL void guillotiere_Destruct_none_drop_Marks(const atlas_search_Marks given_1);
 SMALL void std_alloc_vec_Vec_truncate_Slot_6(Vec_Slot *self, uint64_t n);
@@ -12347,8 +12354,13 @@ SMALL void atlas_store_Destruct_none_drop_Slot(atlas_store_Slot given_1);
 SMALL void core_mem_drop_Link_7(atlas_search_Link x);
 SMALL void atlas_store_Destruct_none_drop_Link(atlas_search_Link given_1);
 SMALL void atlas_store_Destruct_none_drop_Marks(const atlas_search_Marks given_1);
+SMALL void atlas_search_heap_move_below_Slot(slice_Slot_2 entries, atlas_search_Link at, atlas_search_Link up);
 SMALL void atlas_search_marks_Marks_unmark(atlas_search_Marks *self, atlas_search_Place at);
-SMALL void atlas_search_heap_hang_Slot(slice_Slot_2 entries, atlas_search_Link top, atlas_search_Link part);
+SMALL void atlas_search_heap_hang_left_Slot(slice_Slot_2 entries, atlas_search_Link above, atlas_search_Link less);
+SMALL void atlas_search_heap_swap_below_Slot(slice_Slot_2 entries, atlas_search_Link above);
+SMALL uint32_t atlas_search_best_rank_above_zero(uint32_t flip, uint32_t margin);
+SMALL bool atlas_search_best_Best_is_beaten_by(const atlas_search_Best *self, uint32_t rank, uint64_t corner);
+SMALL bool atlas_search_cells_Cell_is_beyond(atlas_search_Cell self, atlas_model_Size size, uint32_t more);
 SMALL Option_u32 atlas_search_best_Best_rank_ahead(const atlas_search_Best *self, atlas_model_Rectangle rectangle, uint64_t corner);
 SMALL uint32_t atlas_search_best_reach_of(bool is_large, uint32_t rank);
 PART void atlas_search_search_show_below_Slot(slice_Slot entries, const atlas_store_Slot *fork, atlas_search_Best *best, uint32_t left,
@@ -12368,12 +12380,11 @@ SMALL bool core_slice_sort_fits_in_Allocation(uint64_t bytes);
 SMALL void core_slice_sort_small_network_sort_Allocation(slice_Allocation_2 s, void *order);
 SMALL tuple_slice_Allocation_slice_Allocation core_slice_slice_T_split_at_mut_Allocation(slice_Allocation_2 given_1, uint64_t given_2);
 SMALL void core_slice_edits_mirror_Allocation(slice_Allocation_2 front, uint64_t low, slice_Allocation_2 back, uint64_t n);
-SMALL bool guillotiere_simple_boxes_FreeBoxEntry_is_fork(const guillotiere_FreeBox *self);
 SMALL void atlas_search_search_show_within_FreeBox(slice_FreeBox entries, atlas_search_Link at, atlas_search_Cell cell,
         atlas_search_Best *best);
-SMALL bool atlas_search_heap_is_left_first_FreeBox(slice_FreeBox entries, atlas_search_Link left, atlas_search_Link right);
-SMALL void atlas_search_heap_hang_left_FreeBox(slice_FreeBox_2 entries, atlas_search_Link above, atlas_search_Link less);
-SMALL void atlas_search_heap_swap_below_FreeBox(slice_FreeBox_2 entries, atlas_search_Link above);
+SMALL bool atlas_search_heap_leaving_is_left_first_FreeBox(slice_FreeBox entries, atlas_search_Link left, atlas_search_Link right);
+PART void atlas_search_heap_leaving_lift_FreeBox(slice_FreeBox_2 entries, atlas_search_Link up, atlas_search_Link left,
+        atlas_search_Link right, bool is_left);
 SMALL void std_alloc_vec_Vec_truncate_within_Slot_6(Vec_Slot *self, uint64_t n);
 SMALL void std_alloc_vec_Vec_truncate_within_Link_11(Vec_Slot *self, uint64_t n);
 SMALL void std_alloc_vec_Vec_truncate_within_Marks_6(Vec_Slot *self, uint64_t n);
@@ -12594,10 +12605,8 @@ SMALL void std_alloc_Destruct_none_drop_Slot(atlas_store_Slot given_1);
 SMALL void atlas_search_Destruct_none_drop_Link(atlas_search_Link given_1);
 SMALL void std_alloc_Destruct_none_drop_Link(atlas_search_Link given_1);
 SMALL atlas_search_Mask atlas_search_masks_Mask_without(atlas_search_Mask self, uint64_t k);
-SMALL void atlas_search_heap_hang_left_Slot(slice_Slot_2 entries, atlas_search_Link above, atlas_search_Link less);
-SMALL void atlas_search_heap_swap_below_Slot(slice_Slot_2 entries, atlas_search_Link above);
+SMALL uint32_t core_int_i32_cast_unsigned(uint32_t given_1);
 SMALL uint32_t atlas_search_best_rank(uint32_t flip, uint32_t margin);
-SMALL bool atlas_search_best_Best_is_beaten_by(const atlas_search_Best *self, uint32_t rank, uint64_t corner);
 SMALL tuple_Slots_CacheChange_u64 core_core_slice_sort_small_insert_each_FnOnce_call_once_Allocation(Slots_CacheChange_u64 given_2,
         uint64_t given_4);
 SMALL Reverse_tuple_u64_u32 atlas_allocator_atlas_rearranging_fn_sort_for_refit_sort_unstable_by_key_FnMut_call_mut(void *given_1,
@@ -18704,7 +18713,7 @@ SMALL bool atlas_allocator_atlas_AtlasAllocator_is_live(const atlas_allocator_At
 /* Frees the box of a live id.
  * crates/atlas_allocator/src/atlas.rt
  */
-SMALL void atlas_allocator_atlas_AtlasAllocator_free(atlas_allocator_AtlasAllocator *self, atlas_model_AllocId id) {
+PART void atlas_allocator_atlas_AtlasAllocator_free(atlas_allocator_AtlasAllocator *self, atlas_model_AllocId id) {
     uint32_t n_3;
     uint32_t n_4;
     n_3 = atlas_store_slots_walks_slot_number(id);
@@ -23734,7 +23743,7 @@ SMALL Result_Inserted_CacheError atlas_cache_cache_TextureCache_insert_new_u64_B
 /* An entry goes, and its rectangle is freed, if it lies on a page.
  * crates/atlas_cache/src/cache/holding.rt
  */
-PART void atlas_cache_cache_holding_take_out_u64_BuildHasherDefault_FoldHasher_FoldHasher(atlas_cache_Rooms *rooms,
+SMALL void atlas_cache_cache_holding_take_out_u64_BuildHasherDefault_FoldHasher_FoldHasher(atlas_cache_Rooms *rooms,
         atlas_entries_Entries_u64_BuildHasherDefault_FoldHasher_FoldHasher *entries, uint32_t number, atlas_entries_Entry_u64 entry) {
     uint32_t n_8;
     atlas_entries_entries_Entries_remove_u64_BuildHasherDefault_FoldHasher_FoldHasher(entries, number);
@@ -25821,7 +25830,7 @@ SMALL bool atlas_search_search_search_before_Slot(slice_Slot entries, const atla
     atlas_search_Mask mask_21;
     atlas_search_Mask mask_22;
     mask_12 = atlas_search_masks_Mask_below(columns, end);
-    atlas_search_search_search_row_Slot(entries, table, own.row, mask_12, false, best);
+    atlas_search_search_search_row_Slot(entries, table, own.row, mask_12, best);
     mask_19 = atlas_search_masks_Mask_below(rows, end);
     atlas_search_search_search_column_Slot(entries, table, own.column, mask_19, best);
     if (atlas_search_best_Best_has_equal_side(best)) {
@@ -30411,14 +30420,14 @@ SMALL atlas_search_Mask atlas_search_masks_Mask_below(atlas_search_Mask self, ui
  * crates/atlas_search/src/search.rt
  */
 SMALL void atlas_search_search_search_row_Slot(slice_Slot entries, const atlas_search_Table *table, uint64_t row,
-        atlas_search_Mask columns, bool is_larger, atlas_search_Best *best) {
-    atlas_search_Mask mask_7;
-    Option_u64 option_9;
-    mask_7 = columns;
+        atlas_search_Mask columns, atlas_search_Best *best) {
+    atlas_search_Mask mask_6;
+    Option_u64 option_8;
+    mask_6 = columns;
     for (;;) {
-        option_9 = atlas_search_masks_Mask_take_first(&mask_7);
-        if (option_9.tag == 1u /* Some */) {
-            atlas_search_search_search_list_Slot(entries, table, new_atlas_search_Place(row, option_9.Some.field_0), is_larger, best);
+        option_8 = atlas_search_masks_Mask_take_first(&mask_6);
+        if (option_8.tag == 1u /* Some */) {
+            atlas_search_search_search_list_Slot(entries, table, new_atlas_search_Place(row, option_8.Some.field_0), best);
         } else {
             break;
         }
@@ -30436,7 +30445,7 @@ SMALL void atlas_search_search_search_column_Slot(slice_Slot entries, const atla
     for (;;) {
         option_8 = atlas_search_masks_Mask_take_first(&mask_6);
         if (option_8.tag == 1u /* Some */) {
-            atlas_search_search_search_list_Slot(entries, table, new_atlas_search_Place(option_8.Some.field_0, column), false, best);
+            atlas_search_search_search_list_Slot(entries, table, new_atlas_search_Place(option_8.Some.field_0, column), best);
         } else {
             break;
         }
@@ -30502,7 +30511,7 @@ SMALL void atlas_search_search_search_rows_Slot(slice_Slot entries, const atlas_
             mask_14 = atlas_search_masks_Mask_from(mask_15, first);
             mask_10 = atlas_search_masks_Mask_below(mask_14, end);
             mask_11 = atlas_search_search_columns_near(options, n_9, mask_10, best);
-            atlas_search_search_search_row_Slot(entries, table, n_9, mask_11, true, best);
+            atlas_search_search_search_larger_Slot(entries, table, n_9, mask_11, best);
         } else {
             break;
         }
@@ -30532,7 +30541,7 @@ SMALL void atlas_search_search_search_few_Slot(slice_Slot entries, const atlas_s
         n_12 = core_int_usize_max(n_7, n_8);
         if (n_12 < end) {
             link_14 = atlas_search_table_Table_head(table, new_atlas_search_Place(n_7, n_8));
-            atlas_search_search_show_list_Slot(entries, link_14, false, best);
+            atlas_search_search_show_list_Slot(entries, link_14, best);
         }
         n_5 = n_5 + 1u;
     }
@@ -30899,7 +30908,7 @@ SMALL bool atlas_search_search_search_before_FreeBox(slice_FreeBox entries, cons
     atlas_search_Mask mask_21;
     atlas_search_Mask mask_22;
     mask_12 = atlas_search_masks_Mask_below(columns, end);
-    atlas_search_search_search_row_FreeBox(entries, table, own.row, mask_12, false, best);
+    atlas_search_search_search_row_FreeBox(entries, table, own.row, mask_12, best);
     mask_19 = atlas_search_masks_Mask_below(rows, end);
     atlas_search_search_search_column_FreeBox(entries, table, own.column, mask_19, best);
     if (atlas_search_best_Best_has_equal_side(best)) {
@@ -31167,21 +31176,32 @@ SMALL atlas_search_Link atlas_search_table_Table_head(const atlas_search_Table *
 SMALL atlas_search_Link atlas_search_heap_push_FreeBox(slice_FreeBox_2 entries, atlas_search_Link tag_, atlas_search_Link top,
         atlas_search_Link near_, atlas_search_Link at) {
     atlas_search_Link link_6;
-    atlas_search_Links links_7;
-    atlas_search_Cell cell_8;
-    atlas_model_Size size_22;
+    atlas_model_Size size_7;
+    atlas_search_Links links_8;
+    atlas_search_Cell cell_9;
     link_6 = new_atlas_search_Link(4294967295u);
-    if (top.number != 4294967295u) {
-        if (atlas_search_heap_is_place_FreeBox(new_slice_FreeBox(entries.at, entries.len), near_, at)) {
-            atlas_search_heap_put_FreeBox(new_slice_FreeBox_2(entries.at, entries.len), at, near_, link_6, link_6, false);
-            links_7 = atlas_search_heap_links_at_FreeBox(new_slice_FreeBox(entries.at, entries.len), near_);
-            atlas_search_heap_relink_FreeBox(new_slice_FreeBox_2(entries.at, entries.len), near_, links_7.up, at, links_7.right);
-            return top;
-        }
+    size_7 = atlas_search_heap_size_at_FreeBox(new_slice_FreeBox(entries.at, entries.len), at);
+    if (top.number == 4294967295u) {
+        atlas_search_heap_put_FreeBox(new_slice_FreeBox_2(entries.at, entries.len), at, tag_, link_6, link_6, false);
+        return at;
     }
-    size_22 = atlas_search_heap_size_at_FreeBox(new_slice_FreeBox(entries.at, entries.len), at);
-    cell_8 = atlas_search_cells_Cell_around(size_22);
-    return atlas_search_heap_sort_in_FreeBox(new_slice_FreeBox_2(entries.at, entries.len), cell_8, tag_, top, at);
+    if (atlas_search_heap_is_place_FreeBox(new_slice_FreeBox(entries.at, entries.len), near_, at)) {
+        atlas_search_heap_put_FreeBox(new_slice_FreeBox_2(entries.at, entries.len), at, near_, link_6, link_6, false);
+        links_8 = atlas_search_heap_links_at_FreeBox(new_slice_FreeBox(entries.at, entries.len), near_);
+        atlas_search_heap_relink_FreeBox(new_slice_FreeBox_2(entries.at, entries.len), near_, links_8.up, at, links_8.right);
+        return top;
+    }
+    if (atlas_search_heap_is_alike_FreeBox(new_slice_FreeBox(entries.at, entries.len), top, at)) {
+        atlas_search_heap_put_FreeBox(new_slice_FreeBox_2(entries.at, entries.len), at, tag_, link_6, link_6, false);
+        return atlas_search_heap_meld_FreeBox(new_slice_FreeBox_2(entries.at, entries.len), top, at, tag_);
+    }
+    cell_9 = atlas_search_cells_Cell_around(size_7);
+    if (atlas_search_heap_sorting_is_fork_before_FreeBox(new_slice_FreeBox(entries.at, entries.len), top, at)) {
+        atlas_search_heap_sorting_sort_below_FreeBox(new_slice_FreeBox_2(entries.at, entries.len), top, at, cell_9.left, cell_9.right,
+                cell_9.top, cell_9.bottom);
+        return top;
+    }
+    return atlas_search_heap_sorting_sort_in_FreeBox(new_slice_FreeBox_2(entries.at, entries.len), cell_9, tag_, top, at);
 }
 
 /* A slot comes first in a list. In a table that hasn't grown it is one of the first eight, and comes first in no other list.
@@ -31935,7 +31955,7 @@ SMALL Option_u32 atlas_cache_options_asked_side(uint32_t side, uint32_t padding,
 /* Adds a key on the first page that has room for it, which is one of these, if any has; None if none has.
  * crates/atlas_cache/src/cache.rt
  */
-PART Result_Option_Place_CacheError atlas_cache_cache_TextureCache_add_u64_BuildHasherDefault_FoldHasher_FoldHasher(atlas_cache_TextureCache_u64_BuildHasherDefault_FoldHasher_FoldHasher *self, uint64_t key, atlas_model_Size size, atlas_model_Size asked, uint64_t from, uint64_t to) {
+SMALL Result_Option_Place_CacheError atlas_cache_cache_TextureCache_add_u64_BuildHasherDefault_FoldHasher_FoldHasher(atlas_cache_TextureCache_u64_BuildHasherDefault_FoldHasher_FoldHasher *self, uint64_t key, atlas_model_Size size, atlas_model_Size asked, uint64_t from, uint64_t to) {
     Option_Entry_u64 option_7;
     atlas_entries_Entry_u64 entry_10;
     ControlFlow_ErrResidual_CacheError_Option_Entry_u64 controlflow_11;
@@ -34977,7 +34997,7 @@ SMALL atlas_search_Link atlas_search_heap_remove_Slot(slice_Slot_2 entries, atla
     atlas_search_Links links_6;
     links_6 = atlas_search_heap_links_at_Slot(new_slice_Slot(entries.at, entries.len), at);
     link_3 = links_6.up;
-    link_4 = atlas_search_heap_leave_Slot(new_slice_Slot_2(entries.at, entries.len), at, link_3);
+    link_4 = atlas_search_heap_leaving_leave_Slot(new_slice_Slot_2(entries.at, entries.len), at, link_3);
     if (entries.len <= (uint64_t)link_3.number) {
         return link_4;
     }
@@ -35163,21 +35183,32 @@ SMALL atlas_search_Link atlas_store_slots_lists_Recent_in_list(const atlas_store
 SMALL atlas_search_Link atlas_search_heap_push_Slot(slice_Slot_2 entries, atlas_search_Link tag_, atlas_search_Link top,
         atlas_search_Link near_, atlas_search_Link at) {
     atlas_search_Link link_6;
-    atlas_search_Links links_7;
-    atlas_search_Cell cell_8;
-    atlas_model_Size size_22;
+    atlas_model_Size size_7;
+    atlas_search_Links links_8;
+    atlas_search_Cell cell_9;
     link_6 = new_atlas_search_Link(4294967295u);
-    if (top.number != 4294967295u) {
-        if (atlas_search_heap_is_place_Slot(new_slice_Slot(entries.at, entries.len), near_, at)) {
-            atlas_search_heap_put_Slot(new_slice_Slot_2(entries.at, entries.len), at, near_, link_6, link_6, false);
-            links_7 = atlas_search_heap_links_at_Slot(new_slice_Slot(entries.at, entries.len), near_);
-            atlas_search_heap_relink_Slot(new_slice_Slot_2(entries.at, entries.len), near_, links_7.up, at, links_7.right);
-            return top;
-        }
+    size_7 = atlas_search_heap_size_at_Slot(new_slice_Slot(entries.at, entries.len), at);
+    if (top.number == 4294967295u) {
+        atlas_search_heap_put_Slot(new_slice_Slot_2(entries.at, entries.len), at, tag_, link_6, link_6, false);
+        return at;
     }
-    size_22 = atlas_search_heap_size_at_Slot(new_slice_Slot(entries.at, entries.len), at);
-    cell_8 = atlas_search_cells_Cell_around(size_22);
-    return atlas_search_heap_sort_in_Slot(new_slice_Slot_2(entries.at, entries.len), cell_8, tag_, top, at);
+    if (atlas_search_heap_is_place_Slot(new_slice_Slot(entries.at, entries.len), near_, at)) {
+        atlas_search_heap_put_Slot(new_slice_Slot_2(entries.at, entries.len), at, near_, link_6, link_6, false);
+        links_8 = atlas_search_heap_links_at_Slot(new_slice_Slot(entries.at, entries.len), near_);
+        atlas_search_heap_relink_Slot(new_slice_Slot_2(entries.at, entries.len), near_, links_8.up, at, links_8.right);
+        return top;
+    }
+    if (atlas_search_heap_is_alike_Slot(new_slice_Slot(entries.at, entries.len), top, at)) {
+        atlas_search_heap_put_Slot(new_slice_Slot_2(entries.at, entries.len), at, tag_, link_6, link_6, false);
+        return atlas_search_heap_meld_Slot(new_slice_Slot_2(entries.at, entries.len), top, at, tag_);
+    }
+    cell_9 = atlas_search_cells_Cell_around(size_7);
+    if (atlas_search_heap_sorting_is_fork_before_Slot(new_slice_Slot(entries.at, entries.len), top, at)) {
+        atlas_search_heap_sorting_sort_below_Slot(new_slice_Slot_2(entries.at, entries.len), top, at, cell_9.left, cell_9.right,
+                cell_9.top, cell_9.bottom);
+        return top;
+    }
+    return atlas_search_heap_sorting_sort_in_Slot(new_slice_Slot_2(entries.at, entries.len), cell_9, tag_, top, at);
 }
 
 /* Writes the tree's part of a slot.
@@ -35345,10 +35376,10 @@ SMALL uint64_t atlas_search_bands_passed(uint32_t side, uint32_t threshold) {
  * crates/atlas_search/src/search.rt
  */
 SMALL void atlas_search_search_search_list_Slot(slice_Slot entries, const atlas_search_Table *table, atlas_search_Place place,
-        bool is_larger, atlas_search_Best *best) {
-    atlas_search_Link link_7;
-    link_7 = atlas_search_table_Table_stored_head(table, place);
-    atlas_search_search_show_list_Slot(entries, link_7, is_larger, best);
+        atlas_search_Best *best) {
+    atlas_search_Link link_6;
+    link_6 = atlas_search_table_Table_stored_head(table, place);
+    atlas_search_search_show_list_Slot(entries, link_6, best);
 }
 
 /* Of the columns of a row those with a list that may hold a better box than the best.
@@ -35372,6 +35403,26 @@ SMALL atlas_search_Mask atlas_search_search_columns_near(const atlas_search_Scal
     return atlas_search_masks_Mask_below(columns, place_6.column + 1u);
 }
 
+/* Shows lists of a row that lie to the right of a request's own and below it to a search.
+ * crates/atlas_search/src/search.rt
+ */
+SMALL void atlas_search_search_search_larger_Slot(slice_Slot entries, const atlas_search_Table *table, uint64_t row,
+        atlas_search_Mask columns, atlas_search_Best *best) {
+    atlas_search_Mask mask_6;
+    Option_u64 option_8;
+    atlas_search_Link link_11;
+    mask_6 = columns;
+    for (;;) {
+        option_8 = atlas_search_masks_Mask_take_first(&mask_6);
+        if (option_8.tag == 1u /* Some */) {
+            link_11 = atlas_search_table_Table_stored_head(table, new_atlas_search_Place(row, option_8.Some.field_0));
+            atlas_search_search_show_larger_Slot(entries, link_11, best);
+        } else {
+            break;
+        }
+    }
+}
+
 /* The list that one of the first few slots comes first in, in a table that hasn't grown; LISTS or more if it does in none.
  * crates/atlas_search/src/table.rt
  */
@@ -35379,30 +35430,23 @@ SMALL uint64_t atlas_search_table_Table_list_of_few(const atlas_search_Table *se
     return (uint64_t)*((uint16_t *)(void *)&self->only + i);
 }
 
-/* Shows a list that begins with this to a search. Where it is of larger sizes alone, it may be enough to look at its first entry.
+/* Shows a list that begins with this to a search.
  * crates/atlas_search/src/search.rt
  */
-SMALL void atlas_search_search_show_list_Slot(slice_Slot entries, atlas_search_Link top, bool is_larger, atlas_search_Best *best) {
-    const atlas_store_Slot *at_5;
-    atlas_model_Rectangle rectangle_6;
-    atlas_search_Cell cell_7;
-    atlas_model_Size size_14;
-    uint64_t n_17;
+SMALL void atlas_search_search_show_list_Slot(slice_Slot entries, atlas_search_Link top, atlas_search_Best *best) {
+    const atlas_store_Slot *at_4;
+    atlas_search_Cell cell_5;
+    atlas_model_Size size_12;
+    atlas_model_Rectangle rectangle_13;
     if (entries.len <= (uint64_t)top.number) {
         return;
     }
-    at_5 = ((atlas_store_Slot *)entries.at + (uint64_t)top.number);
-    if (atlas_search_search_show_entry_Slot(at_5, top, best)) {
-        rectangle_6 = atlas_store_slots_entry_SlotEntry_rectangle(at_5);
-        size_14 = atlas_search_cut_exact_size(rectangle_6);
-        cell_7 = atlas_search_cells_Cell_around(size_14);
-        if (is_larger) {
-            n_17 = atlas_search_best_corner(rectangle_6);
-            if (atlas_search_best_Best_ends_in(best, cell_7, n_17)) {
-                return;
-            }
-        }
-        atlas_search_search_show_halves_Slot(entries, at_5, cell_7, best);
+    at_4 = ((atlas_store_Slot *)entries.at + (uint64_t)top.number);
+    if (atlas_search_search_show_entry_Slot(at_4, top, best)) {
+        rectangle_13 = atlas_store_slots_entry_SlotEntry_rectangle(at_4);
+        size_12 = atlas_search_cut_exact_size(rectangle_13);
+        cell_5 = atlas_search_cells_Cell_around(size_12);
+        atlas_search_search_show_halves_Slot(entries, at_4, cell_5, best);
     }
 }
 
@@ -35726,14 +35770,14 @@ SMALL void std_alloc_vec_opened_drop_run_FreeBox(Slots_CacheChange_u64 *row, uin
  * crates/atlas_search/src/search.rt
  */
 SMALL void atlas_search_search_search_row_FreeBox(slice_FreeBox entries, const atlas_search_Table *table, uint64_t row,
-        atlas_search_Mask columns, bool is_larger, atlas_search_Best *best) {
-    atlas_search_Mask mask_7;
-    Option_u64 option_9;
-    mask_7 = columns;
+        atlas_search_Mask columns, atlas_search_Best *best) {
+    atlas_search_Mask mask_6;
+    Option_u64 option_8;
+    mask_6 = columns;
     for (;;) {
-        option_9 = atlas_search_masks_Mask_take_first(&mask_7);
-        if (option_9.tag == 1u /* Some */) {
-            atlas_search_search_search_list_FreeBox(entries, table, new_atlas_search_Place(row, option_9.Some.field_0), is_larger, best);
+        option_8 = atlas_search_masks_Mask_take_first(&mask_6);
+        if (option_8.tag == 1u /* Some */) {
+            atlas_search_search_search_list_FreeBox(entries, table, new_atlas_search_Place(row, option_8.Some.field_0), best);
         } else {
             break;
         }
@@ -35751,7 +35795,7 @@ SMALL void atlas_search_search_search_column_FreeBox(slice_FreeBox entries, cons
     for (;;) {
         option_8 = atlas_search_masks_Mask_take_first(&mask_6);
         if (option_8.tag == 1u /* Some */) {
-            atlas_search_search_search_list_FreeBox(entries, table, new_atlas_search_Place(option_8.Some.field_0, column), false, best);
+            atlas_search_search_search_list_FreeBox(entries, table, new_atlas_search_Place(option_8.Some.field_0, column), best);
         } else {
             break;
         }
@@ -35779,7 +35823,7 @@ SMALL void atlas_search_search_search_rows_FreeBox(slice_FreeBox entries, const 
             mask_14 = atlas_search_masks_Mask_from(mask_15, first);
             mask_10 = atlas_search_masks_Mask_below(mask_14, end);
             mask_11 = atlas_search_search_columns_near(options, n_9, mask_10, best);
-            atlas_search_search_search_row_FreeBox(entries, table, n_9, mask_11, true, best);
+            atlas_search_search_search_larger_FreeBox(entries, table, n_9, mask_11, best);
         } else {
             break;
         }
@@ -35810,7 +35854,7 @@ SMALL void atlas_search_search_search_few_FreeBox(slice_FreeBox entries, const a
         n_12 = core_int_usize_max(n_7, n_8);
         if (n_12 < end) {
             link_14 = atlas_search_table_Table_head(table, new_atlas_search_Place(n_7, n_8));
-            atlas_search_search_show_list_FreeBox(entries, link_14, false, best);
+            atlas_search_search_show_list_FreeBox(entries, link_14, best);
         }
         n_5 = n_5 + 1u;
     }
@@ -35895,6 +35939,26 @@ SMALL atlas_search_Link atlas_search_table_Table_first(const atlas_search_Table 
     return link_6;
 }
 
+/* The size of an entry's rectangle.
+ * crates/atlas_search/src/heap.rt
+ */
+SMALL atlas_model_Size atlas_search_heap_size_at_FreeBox(slice_FreeBox entries, atlas_search_Link at) {
+    atlas_model_Rectangle rectangle_3;
+    rectangle_3 = guillotiere_simple_boxes_FreeBoxEntry_rectangle(((guillotiere_FreeBox *)entries.at + (uint64_t)at.number));
+    return atlas_search_cut_exact_size(rectangle_3);
+}
+
+/* Writes the three links of an entry, and whether it is a fork.
+ * crates/atlas_search/src/heap.rt
+ */
+SMALL void atlas_search_heap_put_FreeBox(slice_FreeBox_2 entries, atlas_search_Link at, atlas_search_Link up, atlas_search_Link left,
+        atlas_search_Link right, bool is_fork) {
+    guillotiere_FreeBox *at_7;
+    at_7 = (entries.at + (uint64_t)at.number);
+    guillotiere_simple_boxes_FreeBoxLinked_set_links(at_7, up, left, right);
+    guillotiere_simple_boxes_FreeBoxLinked_set_fork(at_7, is_fork);
+}
+
 /* Whether an entry, if there is one, has nothing on its left, comes before another one, and is alike.
  * crates/atlas_search/src/heap.rt
  */
@@ -35920,17 +35984,6 @@ after_2:;
     return n_9 < n_10;
 }
 
-/* Writes the three links of an entry, and whether it is a fork.
- * crates/atlas_search/src/heap.rt
- */
-SMALL void atlas_search_heap_put_FreeBox(slice_FreeBox_2 entries, atlas_search_Link at, atlas_search_Link up, atlas_search_Link left,
-        atlas_search_Link right, bool is_fork) {
-    guillotiere_FreeBox *at_7;
-    at_7 = (entries.at + (uint64_t)at.number);
-    guillotiere_simple_boxes_FreeBoxLinked_set_links(at_7, up, left, right);
-    guillotiere_simple_boxes_FreeBoxLinked_set_fork(at_7, is_fork);
-}
-
 /* crates/atlas_search/src/heap.rt */
 SMALL atlas_search_Links atlas_search_heap_links_at_FreeBox(slice_FreeBox entries, atlas_search_Link at) {
     const guillotiere_FreeBox *at_3;
@@ -35952,13 +36005,42 @@ SMALL void atlas_search_heap_relink_FreeBox(slice_FreeBox_2 entries, atlas_searc
     guillotiere_simple_boxes_FreeBoxLinked_set_links((entries.at + (uint64_t)at.number), up, left, right);
 }
 
-/* The size of an entry's rectangle.
+/* Whether an entry is no fork and has the size of another one.
  * crates/atlas_search/src/heap.rt
  */
-SMALL atlas_model_Size atlas_search_heap_size_at_FreeBox(slice_FreeBox entries, atlas_search_Link at) {
-    atlas_model_Rectangle rectangle_3;
-    rectangle_3 = guillotiere_simple_boxes_FreeBoxEntry_rectangle(((guillotiere_FreeBox *)entries.at + (uint64_t)at.number));
-    return atlas_search_cut_exact_size(rectangle_3);
+SMALL bool atlas_search_heap_is_alike_FreeBox(slice_FreeBox entries, atlas_search_Link top, atlas_search_Link at) {
+    atlas_model_Size size_4;
+    atlas_model_Size size_5;
+    bool is_7;
+    if (atlas_search_heap_is_fork_FreeBox(entries, top)) {
+        return false;
+    }
+    size_4 = atlas_search_heap_size_at_FreeBox(entries, top);
+    size_5 = atlas_search_heap_size_at_FreeBox(entries, at);
+    is_7 = size_4.width == size_5.width;
+    if (is_7) {
+        is_7 = size_4.height == size_5.height;
+    }
+    return is_7;
+}
+
+/* Two heaps as one, whose top hangs below `up`. Answers the top.
+ * crates/atlas_search/src/heap.rt
+ */
+SMALL atlas_search_Link atlas_search_heap_meld_FreeBox(slice_FreeBox_2 entries, atlas_search_Link one, atlas_search_Link other,
+        atlas_search_Link up) {
+    uint64_t n_5;
+    uint64_t n_8;
+    n_5 = atlas_search_heap_corner_at_FreeBox(new_slice_FreeBox(entries.at, entries.len), other);
+    n_8 = atlas_search_heap_corner_at_FreeBox(new_slice_FreeBox(entries.at, entries.len), one);
+    if (n_5 < n_8) {
+        atlas_search_heap_set_up_FreeBox(new_slice_FreeBox_2(entries.at, entries.len), other, up);
+        atlas_search_heap_hang_FreeBox(new_slice_FreeBox_2(entries.at, entries.len), other, one);
+        return other;
+    }
+    atlas_search_heap_set_up_FreeBox(new_slice_FreeBox_2(entries.at, entries.len), one, up);
+    atlas_search_heap_hang_FreeBox(new_slice_FreeBox_2(entries.at, entries.len), one, other);
+    return one;
 }
 
 /* The sizes with both sides in the steps of these.
@@ -35972,50 +36054,91 @@ SMALL atlas_search_Cell atlas_search_cells_Cell_around(atlas_model_Size size) {
     return new_atlas_search_Cell(step_2.first, step_2.end, step_3.first, step_3.end);
 }
 
-/* An entry joins a heap by its size. Answers the top, which hangs below `up`.
- * crates/atlas_search/src/heap.rt
+/* Whether an entry, if there is one, is a fork and doesn't come after another one.
+ * crates/atlas_search/src/heap/sorting.rt
  */
-PART atlas_search_Link atlas_search_heap_sort_in_FreeBox(slice_FreeBox_2 entries, atlas_search_Cell cell, atlas_search_Link up,
+SMALL bool atlas_search_heap_sorting_is_fork_before_FreeBox(slice_FreeBox entries, atlas_search_Link top, atlas_search_Link at) {
+    uint64_t n_6;
+    uint64_t n_7;
+    bool is_8;
+    if (top.number == 4294967295u) {
+        return false;
+    }
+    is_8 = atlas_search_heap_is_fork_FreeBox(entries, top);
+    if (!is_8) {
+        return false;
+    }
+    n_6 = atlas_search_heap_corner_at_FreeBox(entries, top);
+    n_7 = atlas_search_heap_corner_at_FreeBox(entries, at);
+    return n_6 <= n_7;
+}
+
+/* An entry joins what hangs below a fork that doesn't come after it, by its size: it goes on as long as it meets such forks, which stay
+ * where they are. The cell comes by its four sides, since a whole one would go through memory.
+ * crates/atlas_search/src/heap/sorting.rt
+ */
+PART void atlas_search_heap_sorting_sort_below_FreeBox(slice_FreeBox_2 entries, atlas_search_Link above, atlas_search_Link at,
+        uint32_t left, uint32_t right, uint32_t top, uint32_t bottom) {
+    atlas_search_Links links_9;
+    atlas_search_Halves halves_10;
+    atlas_search_Cell cell_11;
+    atlas_search_Link link_12;
+    atlas_search_Cell cell_13;
+    atlas_search_Link link_14;
+    atlas_model_Size size_19;
+    links_9 = atlas_search_heap_links_at_FreeBox(new_slice_FreeBox(entries.at, entries.len), above);
+    halves_10 = atlas_search_cells_Cell_halves(new_atlas_search_Cell(left, right, top, bottom));
+    size_19 = atlas_search_heap_size_at_FreeBox(new_slice_FreeBox(entries.at, entries.len), at);
+    if (atlas_search_cells_Cell_is_below_ends(halves_10.low, size_19)) {
+        cell_11 = halves_10.low;
+        if (atlas_search_heap_sorting_is_fork_before_FreeBox(new_slice_FreeBox(entries.at, entries.len), links_9.left, at)) {
+            atlas_search_heap_sorting_sort_below_FreeBox(new_slice_FreeBox_2(entries.at, entries.len), links_9.left, at, cell_11.left,
+                    cell_11.right, cell_11.top, cell_11.bottom);
+            return;
+        }
+        link_12 = atlas_search_heap_sorting_sort_in_FreeBox(new_slice_FreeBox_2(entries.at, entries.len), cell_11, above, links_9.left, at);
+        atlas_search_heap_relink_FreeBox(new_slice_FreeBox_2(entries.at, entries.len), above, links_9.up, link_12, links_9.right);
+    } else {
+        cell_13 = halves_10.high;
+        if (atlas_search_heap_sorting_is_fork_before_FreeBox(new_slice_FreeBox(entries.at, entries.len), links_9.right, at)) {
+            atlas_search_heap_sorting_sort_below_FreeBox(new_slice_FreeBox_2(entries.at, entries.len), links_9.right, at, cell_13.left,
+                    cell_13.right, cell_13.top, cell_13.bottom);
+            return;
+        }
+        link_14 = atlas_search_heap_sorting_sort_in_FreeBox(new_slice_FreeBox_2(entries.at, entries.len), cell_13, above, links_9.right,
+                at);
+        atlas_search_heap_relink_FreeBox(new_slice_FreeBox_2(entries.at, entries.len), above, links_9.up, links_9.left, link_14);
+    }
+}
+
+/* An entry joins a heap by its size, whose top hangs below `up`. Answers the top.
+ * crates/atlas_search/src/heap/sorting.rt
+ */
+PART atlas_search_Link atlas_search_heap_sorting_sort_in_FreeBox(slice_FreeBox_2 entries, atlas_search_Cell cell, atlas_search_Link up,
         atlas_search_Link top, atlas_search_Link at) {
     atlas_search_Link link_6;
-    atlas_search_Links links_8;
-    atlas_search_Link link_9;
-    atlas_search_Link link_10;
-    atlas_search_Halves halves_11;
-    atlas_search_Link link_12;
-    atlas_search_Link link_13;
-    atlas_search_Links links_21;
-    atlas_search_Pair pair_34;
-    atlas_model_Size size_39;
+    uint64_t n_19;
+    uint64_t n_22;
     link_6 = new_atlas_search_Link(4294967295u);
     if (top.number == 4294967295u) {
         atlas_search_heap_put_FreeBox(new_slice_FreeBox_2(entries.at, entries.len), at, up, link_6, link_6, false);
         return at;
     }
     if (atlas_search_heap_is_alike_FreeBox(new_slice_FreeBox(entries.at, entries.len), top, at)) {
-        links_21 = atlas_search_heap_links_at_FreeBox(new_slice_FreeBox(entries.at, entries.len), top);
-        atlas_search_heap_put_FreeBox(new_slice_FreeBox_2(entries.at, entries.len), at, links_21.up, link_6, link_6, false);
+        atlas_search_heap_put_FreeBox(new_slice_FreeBox_2(entries.at, entries.len), at, up, link_6, link_6, false);
         return atlas_search_heap_meld_FreeBox(new_slice_FreeBox_2(entries.at, entries.len), top, at, up);
     }
-    atlas_search_heap_make_fork_FreeBox(new_slice_FreeBox_2(entries.at, entries.len), cell, top);
-    links_8 = atlas_search_heap_links_at_FreeBox(new_slice_FreeBox(entries.at, entries.len), top);
-    pair_34 = atlas_search_heap_in_order_FreeBox(new_slice_FreeBox(entries.at, entries.len), top, at);
-    link_9 = pair_34.first;
-    link_10 = pair_34.rest;
-    halves_11 = atlas_search_cells_Cell_halves(cell);
-    size_39 = atlas_search_heap_size_at_FreeBox(new_slice_FreeBox(entries.at, entries.len), link_10);
-    if (atlas_search_cells_Cell_is_below_ends(halves_11.low, size_39)) {
-        link_12 = atlas_search_heap_sort_in_FreeBox(new_slice_FreeBox_2(entries.at, entries.len), halves_11.low, link_9, links_8.left,
-                link_10);
-        atlas_search_heap_move_below_FreeBox(new_slice_FreeBox_2(entries.at, entries.len), links_8.right, link_9);
-        atlas_search_heap_put_FreeBox(new_slice_FreeBox_2(entries.at, entries.len), link_9, up, link_12, links_8.right, true);
-    } else {
-        link_13 = atlas_search_heap_sort_in_FreeBox(new_slice_FreeBox_2(entries.at, entries.len), halves_11.high, link_9, links_8.right,
-                link_10);
-        atlas_search_heap_move_below_FreeBox(new_slice_FreeBox_2(entries.at, entries.len), links_8.left, link_9);
-        atlas_search_heap_put_FreeBox(new_slice_FreeBox_2(entries.at, entries.len), link_9, up, links_8.left, link_13, true);
+    n_19 = atlas_search_heap_corner_at_FreeBox(new_slice_FreeBox(entries.at, entries.len), at);
+    n_22 = atlas_search_heap_corner_at_FreeBox(new_slice_FreeBox(entries.at, entries.len), top);
+    if (n_19 < n_22) {
+        atlas_search_heap_sorting_sink_FreeBox(new_slice_FreeBox_2(entries.at, entries.len), up, top, at, cell.left, cell.right, cell.top,
+                cell.bottom);
+        return at;
     }
-    return link_9;
+    atlas_search_heap_sorting_make_fork_FreeBox(new_slice_FreeBox_2(entries.at, entries.len), cell, top);
+    atlas_search_heap_sorting_sort_below_FreeBox(new_slice_FreeBox_2(entries.at, entries.len), top, at, cell.left, cell.right, cell.top,
+            cell.bottom);
+    return top;
 }
 
 /* A slot comes first in a list, where heads are stored.
@@ -39787,47 +39910,30 @@ SMALL atlas_search_Links atlas_search_heap_links_at_Slot(slice_Slot entries, atl
 }
 
 /* What hangs below an entry becomes one heap, which hangs below `up`. Of a fork's two sides the top that comes first comes up.
- * crates/atlas_search/src/heap.rt
+ * crates/atlas_search/src/heap/leaving.rt
  */
-PART atlas_search_Link atlas_search_heap_leave_Slot(slice_Slot_2 entries, atlas_search_Link at, atlas_search_Link up) {
+SMALL atlas_search_Link atlas_search_heap_leaving_leave_Slot(slice_Slot_2 entries, atlas_search_Link at, atlas_search_Link up) {
     atlas_search_Links links_4;
-    atlas_search_Link link_5;
+    bool is_5;
     atlas_search_Link link_6;
     bool is_7;
-    bool is_21;
-    bool is_44;
+    atlas_search_Link link_19;
     is_7 = atlas_search_heap_is_fork_Slot(new_slice_Slot(entries.at, entries.len), at);
     if (!is_7) {
         return atlas_search_heap_close_Slot(new_slice_Slot_2(entries.at, entries.len), at, up);
     }
     links_4 = atlas_search_heap_links_at_Slot(new_slice_Slot(entries.at, entries.len), at);
-    if (atlas_search_heap_is_left_first_Slot(new_slice_Slot(entries.at, entries.len), links_4.left, links_4.right)) {
-        if (links_4.right.number == 4294967295u) {
-            is_21 = atlas_search_heap_is_fork_Slot(new_slice_Slot(entries.at, entries.len), links_4.left);
-            if (!is_21) {
-                atlas_search_heap_set_up_Slot(new_slice_Slot_2(entries.at, entries.len), links_4.left, up);
-                return links_4.left;
-            }
-        }
-        link_5 = atlas_search_heap_leave_Slot(new_slice_Slot_2(entries.at, entries.len), links_4.left, links_4.left);
-        atlas_search_heap_move_below_Slot(new_slice_Slot_2(entries.at, entries.len), links_4.right, links_4.left);
-        atlas_search_heap_put_Slot(new_slice_Slot_2(entries.at, entries.len), links_4.left, up, link_5, links_4.right, true);
-        return links_4.left;
+    is_5 = atlas_search_heap_leaving_is_left_first_Slot(new_slice_Slot(entries.at, entries.len), links_4.left, links_4.right);
+    if (is_5) {
+        link_19 = links_4.left;
+    } else {
+        link_19 = links_4.right;
     }
-    if (links_4.right.number == 4294967295u) {
-        return links_4.right;
+    link_6 = link_19;
+    if (link_6.number != 4294967295u) {
+        atlas_search_heap_leaving_lift_Slot(new_slice_Slot_2(entries.at, entries.len), up, links_4.left, links_4.right, is_5);
     }
-    if (links_4.left.number == 4294967295u) {
-        is_44 = atlas_search_heap_is_fork_Slot(new_slice_Slot(entries.at, entries.len), links_4.right);
-        if (!is_44) {
-            atlas_search_heap_set_up_Slot(new_slice_Slot_2(entries.at, entries.len), links_4.right, up);
-            return links_4.right;
-        }
-    }
-    link_6 = atlas_search_heap_leave_Slot(new_slice_Slot_2(entries.at, entries.len), links_4.right, links_4.right);
-    atlas_search_heap_move_below_Slot(new_slice_Slot_2(entries.at, entries.len), links_4.left, links_4.right);
-    atlas_search_heap_put_Slot(new_slice_Slot_2(entries.at, entries.len), links_4.right, up, links_4.left, link_6, true);
-    return links_4.right;
+    return link_6;
 }
 
 /* Writes the three links of an entry.
@@ -39928,6 +40034,26 @@ SMALL void atlas_store_slots_lists_set_right(slice_Slot_2 slots, atlas_search_Li
     (slots.at + (uint64_t)at.number)->right = right;
 }
 
+/* The size of an entry's rectangle.
+ * crates/atlas_search/src/heap.rt
+ */
+SMALL atlas_model_Size atlas_search_heap_size_at_Slot(slice_Slot entries, atlas_search_Link at) {
+    atlas_model_Rectangle rectangle_3;
+    rectangle_3 = atlas_store_slots_entry_SlotEntry_rectangle(((atlas_store_Slot *)entries.at + (uint64_t)at.number));
+    return atlas_search_cut_exact_size(rectangle_3);
+}
+
+/* Writes the three links of an entry, and whether it is a fork.
+ * crates/atlas_search/src/heap.rt
+ */
+SMALL void atlas_search_heap_put_Slot(slice_Slot_2 entries, atlas_search_Link at, atlas_search_Link up, atlas_search_Link left,
+        atlas_search_Link right, bool is_fork) {
+    atlas_store_Slot *at_7;
+    at_7 = (entries.at + (uint64_t)at.number);
+    atlas_store_slots_entry_SlotLinked_set_links(at_7, up, left, right);
+    atlas_store_slots_entry_SlotLinked_set_fork(at_7, is_fork);
+}
+
 /* Whether an entry, if there is one, has nothing on its left, comes before another one, and is alike.
  * crates/atlas_search/src/heap.rt
  */
@@ -39953,68 +40079,128 @@ after_2:;
     return n_9 < n_10;
 }
 
-/* Writes the three links of an entry, and whether it is a fork.
+/* Whether an entry is no fork and has the size of another one.
  * crates/atlas_search/src/heap.rt
  */
-SMALL void atlas_search_heap_put_Slot(slice_Slot_2 entries, atlas_search_Link at, atlas_search_Link up, atlas_search_Link left,
-        atlas_search_Link right, bool is_fork) {
-    atlas_store_Slot *at_7;
-    at_7 = (entries.at + (uint64_t)at.number);
-    atlas_store_slots_entry_SlotLinked_set_links(at_7, up, left, right);
-    atlas_store_slots_entry_SlotLinked_set_fork(at_7, is_fork);
+SMALL bool atlas_search_heap_is_alike_Slot(slice_Slot entries, atlas_search_Link top, atlas_search_Link at) {
+    atlas_model_Size size_4;
+    atlas_model_Size size_5;
+    bool is_7;
+    if (atlas_search_heap_is_fork_Slot(entries, top)) {
+        return false;
+    }
+    size_4 = atlas_search_heap_size_at_Slot(entries, top);
+    size_5 = atlas_search_heap_size_at_Slot(entries, at);
+    is_7 = size_4.width == size_5.width;
+    if (is_7) {
+        is_7 = size_4.height == size_5.height;
+    }
+    return is_7;
 }
 
-/* The size of an entry's rectangle.
+/* Two heaps as one, whose top hangs below `up`. Answers the top.
  * crates/atlas_search/src/heap.rt
  */
-SMALL atlas_model_Size atlas_search_heap_size_at_Slot(slice_Slot entries, atlas_search_Link at) {
-    atlas_model_Rectangle rectangle_3;
-    rectangle_3 = atlas_store_slots_entry_SlotEntry_rectangle(((atlas_store_Slot *)entries.at + (uint64_t)at.number));
-    return atlas_search_cut_exact_size(rectangle_3);
+SMALL atlas_search_Link atlas_search_heap_meld_Slot(slice_Slot_2 entries, atlas_search_Link one, atlas_search_Link other,
+        atlas_search_Link up) {
+    uint64_t n_5;
+    uint64_t n_8;
+    n_5 = atlas_search_heap_corner_at_Slot(new_slice_Slot(entries.at, entries.len), other);
+    n_8 = atlas_search_heap_corner_at_Slot(new_slice_Slot(entries.at, entries.len), one);
+    if (n_5 < n_8) {
+        atlas_search_heap_set_up_Slot(new_slice_Slot_2(entries.at, entries.len), other, up);
+        atlas_search_heap_hang_Slot(new_slice_Slot_2(entries.at, entries.len), other, one);
+        return other;
+    }
+    atlas_search_heap_set_up_Slot(new_slice_Slot_2(entries.at, entries.len), one, up);
+    atlas_search_heap_hang_Slot(new_slice_Slot_2(entries.at, entries.len), one, other);
+    return one;
 }
 
-/* An entry joins a heap by its size. Answers the top, which hangs below `up`.
- * crates/atlas_search/src/heap.rt
+/* Whether an entry, if there is one, is a fork and doesn't come after another one.
+ * crates/atlas_search/src/heap/sorting.rt
  */
-PART atlas_search_Link atlas_search_heap_sort_in_Slot(slice_Slot_2 entries, atlas_search_Cell cell, atlas_search_Link up,
+SMALL bool atlas_search_heap_sorting_is_fork_before_Slot(slice_Slot entries, atlas_search_Link top, atlas_search_Link at) {
+    uint64_t n_6;
+    uint64_t n_7;
+    bool is_8;
+    if (top.number == 4294967295u) {
+        return false;
+    }
+    is_8 = atlas_search_heap_is_fork_Slot(entries, top);
+    if (!is_8) {
+        return false;
+    }
+    n_6 = atlas_search_heap_corner_at_Slot(entries, top);
+    n_7 = atlas_search_heap_corner_at_Slot(entries, at);
+    return n_6 <= n_7;
+}
+
+/* An entry joins what hangs below a fork that doesn't come after it, by its size: it goes on as long as it meets such forks, which stay
+ * where they are. The cell comes by its four sides, since a whole one would go through memory.
+ * crates/atlas_search/src/heap/sorting.rt
+ */
+PART void atlas_search_heap_sorting_sort_below_Slot(slice_Slot_2 entries, atlas_search_Link above, atlas_search_Link at, uint32_t left,
+        uint32_t right, uint32_t top, uint32_t bottom) {
+    atlas_search_Links links_9;
+    atlas_search_Halves halves_10;
+    atlas_search_Cell cell_11;
+    atlas_search_Link link_12;
+    atlas_search_Cell cell_13;
+    atlas_search_Link link_14;
+    atlas_model_Size size_19;
+    links_9 = atlas_search_heap_links_at_Slot(new_slice_Slot(entries.at, entries.len), above);
+    halves_10 = atlas_search_cells_Cell_halves(new_atlas_search_Cell(left, right, top, bottom));
+    size_19 = atlas_search_heap_size_at_Slot(new_slice_Slot(entries.at, entries.len), at);
+    if (atlas_search_cells_Cell_is_below_ends(halves_10.low, size_19)) {
+        cell_11 = halves_10.low;
+        if (atlas_search_heap_sorting_is_fork_before_Slot(new_slice_Slot(entries.at, entries.len), links_9.left, at)) {
+            atlas_search_heap_sorting_sort_below_Slot(new_slice_Slot_2(entries.at, entries.len), links_9.left, at, cell_11.left,
+                    cell_11.right, cell_11.top, cell_11.bottom);
+            return;
+        }
+        link_12 = atlas_search_heap_sorting_sort_in_Slot(new_slice_Slot_2(entries.at, entries.len), cell_11, above, links_9.left, at);
+        atlas_search_heap_relink_Slot(new_slice_Slot_2(entries.at, entries.len), above, links_9.up, link_12, links_9.right);
+    } else {
+        cell_13 = halves_10.high;
+        if (atlas_search_heap_sorting_is_fork_before_Slot(new_slice_Slot(entries.at, entries.len), links_9.right, at)) {
+            atlas_search_heap_sorting_sort_below_Slot(new_slice_Slot_2(entries.at, entries.len), links_9.right, at, cell_13.left,
+                    cell_13.right, cell_13.top, cell_13.bottom);
+            return;
+        }
+        link_14 = atlas_search_heap_sorting_sort_in_Slot(new_slice_Slot_2(entries.at, entries.len), cell_13, above, links_9.right, at);
+        atlas_search_heap_relink_Slot(new_slice_Slot_2(entries.at, entries.len), above, links_9.up, links_9.left, link_14);
+    }
+}
+
+/* An entry joins a heap by its size, whose top hangs below `up`. Answers the top.
+ * crates/atlas_search/src/heap/sorting.rt
+ */
+PART atlas_search_Link atlas_search_heap_sorting_sort_in_Slot(slice_Slot_2 entries, atlas_search_Cell cell, atlas_search_Link up,
         atlas_search_Link top, atlas_search_Link at) {
     atlas_search_Link link_6;
-    atlas_search_Links links_8;
-    atlas_search_Link link_9;
-    atlas_search_Link link_10;
-    atlas_search_Halves halves_11;
-    atlas_search_Link link_12;
-    atlas_search_Link link_13;
-    atlas_search_Links links_21;
-    atlas_search_Pair pair_34;
-    atlas_model_Size size_39;
+    uint64_t n_19;
+    uint64_t n_22;
     link_6 = new_atlas_search_Link(4294967295u);
     if (top.number == 4294967295u) {
         atlas_search_heap_put_Slot(new_slice_Slot_2(entries.at, entries.len), at, up, link_6, link_6, false);
         return at;
     }
     if (atlas_search_heap_is_alike_Slot(new_slice_Slot(entries.at, entries.len), top, at)) {
-        links_21 = atlas_search_heap_links_at_Slot(new_slice_Slot(entries.at, entries.len), top);
-        atlas_search_heap_put_Slot(new_slice_Slot_2(entries.at, entries.len), at, links_21.up, link_6, link_6, false);
+        atlas_search_heap_put_Slot(new_slice_Slot_2(entries.at, entries.len), at, up, link_6, link_6, false);
         return atlas_search_heap_meld_Slot(new_slice_Slot_2(entries.at, entries.len), top, at, up);
     }
-    atlas_search_heap_make_fork_Slot(new_slice_Slot_2(entries.at, entries.len), cell, top);
-    links_8 = atlas_search_heap_links_at_Slot(new_slice_Slot(entries.at, entries.len), top);
-    pair_34 = atlas_search_heap_in_order_Slot(new_slice_Slot(entries.at, entries.len), top, at);
-    link_9 = pair_34.first;
-    link_10 = pair_34.rest;
-    halves_11 = atlas_search_cells_Cell_halves(cell);
-    size_39 = atlas_search_heap_size_at_Slot(new_slice_Slot(entries.at, entries.len), link_10);
-    if (atlas_search_cells_Cell_is_below_ends(halves_11.low, size_39)) {
-        link_12 = atlas_search_heap_sort_in_Slot(new_slice_Slot_2(entries.at, entries.len), halves_11.low, link_9, links_8.left, link_10);
-        atlas_search_heap_move_below_Slot(new_slice_Slot_2(entries.at, entries.len), links_8.right, link_9);
-        atlas_search_heap_put_Slot(new_slice_Slot_2(entries.at, entries.len), link_9, up, link_12, links_8.right, true);
-    } else {
-        link_13 = atlas_search_heap_sort_in_Slot(new_slice_Slot_2(entries.at, entries.len), halves_11.high, link_9, links_8.right, link_10);
-        atlas_search_heap_move_below_Slot(new_slice_Slot_2(entries.at, entries.len), links_8.left, link_9);
-        atlas_search_heap_put_Slot(new_slice_Slot_2(entries.at, entries.len), link_9, up, links_8.left, link_13, true);
+    n_19 = atlas_search_heap_corner_at_Slot(new_slice_Slot(entries.at, entries.len), at);
+    n_22 = atlas_search_heap_corner_at_Slot(new_slice_Slot(entries.at, entries.len), top);
+    if (n_19 < n_22) {
+        atlas_search_heap_sorting_sink_Slot(new_slice_Slot_2(entries.at, entries.len), up, top, at, cell.left, cell.right, cell.top,
+                cell.bottom);
+        return at;
     }
-    return link_9;
+    atlas_search_heap_sorting_make_fork_Slot(new_slice_Slot_2(entries.at, entries.len), cell, top);
+    atlas_search_heap_sorting_sort_below_Slot(new_slice_Slot_2(entries.at, entries.len), top, at, cell.left, cell.right, cell.top,
+            cell.bottom);
+    return top;
 }
 
 /* A slot that was never taken.
@@ -40061,6 +40247,35 @@ after_2:;
     return new_Option_Size_Some(new_atlas_model_Size(n_17, n_10));
 }
 
+/* Shows a list of sizes that are larger than the request's, both sides, to a search. It may be enough to look at its first entry.
+ * crates/atlas_search/src/search.rt
+ */
+SMALL void atlas_search_search_show_larger_Slot(slice_Slot entries, atlas_search_Link top, atlas_search_Best *best) {
+    const atlas_store_Slot *at_4;
+    atlas_model_Rectangle rectangle_5;
+    uint64_t n_6;
+    atlas_search_Cell cell_7;
+    atlas_model_Size size_17;
+    if (entries.len <= (uint64_t)top.number) {
+        return;
+    }
+    at_4 = ((atlas_store_Slot *)entries.at + (uint64_t)top.number);
+    rectangle_5 = atlas_store_slots_entry_SlotEntry_rectangle(at_4);
+    n_6 = atlas_search_best_corner(rectangle_5);
+    if (atlas_search_best_Best_passes_larger(best, n_6)) {
+        return;
+    }
+    atlas_search_best_Best_look_larger(best, rectangle_5, n_6, top);
+    if (atlas_store_slots_entry_SlotEntry_is_fork(at_4)) {
+        size_17 = atlas_search_cut_exact_size(rectangle_5);
+        cell_7 = atlas_search_cells_Cell_around(size_17);
+        if (atlas_search_best_Best_ends_in(best, cell_7, n_6)) {
+            return;
+        }
+        atlas_search_search_show_halves_Slot(entries, at_4, cell_7, best);
+    }
+}
+
 /* Shows an entry to a search. Answers whether one that hangs below it may be better: where it is a fork, since else those have
  * its size and come no earlier, and where neither it nor a best that comes no later has an equal side.
  * crates/atlas_search/src/search.rt
@@ -40077,27 +40292,6 @@ SMALL bool atlas_search_search_show_entry_Slot(const atlas_store_Slot *entry, at
         return false;
     }
     return atlas_store_slots_entry_SlotEntry_is_fork(entry);
-}
-
-/* The `min` of a box as one number, the greater the later the box comes: the y, and below it the x.
- * crates/atlas_search/src/best.rt
- */
-SMALL uint64_t atlas_search_best_corner(atlas_model_Rectangle rectangle) {
-    return ((uint64_t)rectangle.min_.y * UINT64_C(4294967296)) + (uint64_t)rectangle.min_.x;
-}
-
-/* Whether no box of a size in this cell that begins at this corner or later is better than the best, since each leaves over as much as
- * that or more. It isn't said where the best has an equal side, nor of a large request.
- * crates/atlas_search/src/best.rt
- */
-SMALL bool atlas_search_best_Best_ends_in(const atlas_search_Best *self, atlas_search_Cell cell, uint64_t corner) {
-    if (corner < self->corner) {
-        return false;
-    }
-    if (self->reach == 0u) {
-        return false;
-    }
-    return atlas_search_cells_Cell_is_beyond(cell, self->size, self->reach - 1u);
 }
 
 /* Shows what hangs below a fork of sizes of a cell to a search, but for what can't be the best: of the halves only those are entered that
@@ -40438,36 +40632,49 @@ SMALL void core_mem_drop_FreeBox(guillotiere_FreeBox x) {
  * crates/atlas_search/src/search.rt
  */
 SMALL void atlas_search_search_search_list_FreeBox(slice_FreeBox entries, const atlas_search_Table *table, atlas_search_Place place,
-        bool is_larger, atlas_search_Best *best) {
-    atlas_search_Link link_7;
-    link_7 = atlas_search_table_Table_stored_head(table, place);
-    atlas_search_search_show_list_FreeBox(entries, link_7, is_larger, best);
+        atlas_search_Best *best) {
+    atlas_search_Link link_6;
+    link_6 = atlas_search_table_Table_stored_head(table, place);
+    atlas_search_search_show_list_FreeBox(entries, link_6, best);
 }
 
-/* Shows a list that begins with this to a search. Where it is of larger sizes alone, it may be enough to look at its first entry.
+/* Shows lists of a row that lie to the right of a request's own and below it to a search.
  * crates/atlas_search/src/search.rt
  */
-SMALL void atlas_search_search_show_list_FreeBox(slice_FreeBox entries, atlas_search_Link top, bool is_larger, atlas_search_Best *best) {
-    const guillotiere_FreeBox *at_5;
-    atlas_model_Rectangle rectangle_6;
-    atlas_search_Cell cell_7;
-    atlas_model_Size size_14;
-    uint64_t n_17;
+SMALL void atlas_search_search_search_larger_FreeBox(slice_FreeBox entries, const atlas_search_Table *table, uint64_t row,
+        atlas_search_Mask columns, atlas_search_Best *best) {
+    atlas_search_Mask mask_6;
+    Option_u64 option_8;
+    atlas_search_Link link_11;
+    mask_6 = columns;
+    for (;;) {
+        option_8 = atlas_search_masks_Mask_take_first(&mask_6);
+        if (option_8.tag == 1u /* Some */) {
+            link_11 = atlas_search_table_Table_stored_head(table, new_atlas_search_Place(row, option_8.Some.field_0));
+            atlas_search_search_show_larger_FreeBox(entries, link_11, best);
+        } else {
+            break;
+        }
+    }
+}
+
+/* Shows a list that begins with this to a search.
+ * crates/atlas_search/src/search.rt
+ */
+SMALL void atlas_search_search_show_list_FreeBox(slice_FreeBox entries, atlas_search_Link top, atlas_search_Best *best) {
+    const guillotiere_FreeBox *at_4;
+    atlas_search_Cell cell_5;
+    atlas_model_Size size_12;
+    atlas_model_Rectangle rectangle_13;
     if (entries.len <= (uint64_t)top.number) {
         return;
     }
-    at_5 = ((guillotiere_FreeBox *)entries.at + (uint64_t)top.number);
-    if (atlas_search_search_show_entry_FreeBox(at_5, top, best)) {
-        rectangle_6 = guillotiere_simple_boxes_FreeBoxEntry_rectangle(at_5);
-        size_14 = atlas_search_cut_exact_size(rectangle_6);
-        cell_7 = atlas_search_cells_Cell_around(size_14);
-        if (is_larger) {
-            n_17 = atlas_search_best_corner(rectangle_6);
-            if (atlas_search_best_Best_ends_in(best, cell_7, n_17)) {
-                return;
-            }
-        }
-        atlas_search_search_show_halves_FreeBox(entries, at_5, cell_7, best);
+    at_4 = ((guillotiere_FreeBox *)entries.at + (uint64_t)top.number);
+    if (atlas_search_search_show_entry_FreeBox(at_4, top, best)) {
+        rectangle_13 = guillotiere_simple_boxes_FreeBoxEntry_rectangle(at_4);
+        size_12 = atlas_search_cut_exact_size(rectangle_13);
+        cell_5 = atlas_search_cells_Cell_around(size_12);
+        atlas_search_search_show_halves_FreeBox(entries, at_4, cell_5, best);
     }
 }
 
@@ -40482,7 +40689,7 @@ SMALL atlas_search_Link atlas_search_heap_remove_FreeBox(slice_FreeBox_2 entries
     atlas_search_Links links_6;
     links_6 = atlas_search_heap_links_at_FreeBox(new_slice_FreeBox(entries.at, entries.len), at);
     link_3 = links_6.up;
-    link_4 = atlas_search_heap_leave_FreeBox(new_slice_FreeBox_2(entries.at, entries.len), at, link_3);
+    link_4 = atlas_search_heap_leaving_leave_FreeBox(new_slice_FreeBox_2(entries.at, entries.len), at, link_3);
     if (entries.len <= (uint64_t)link_3.number) {
         return link_4;
     }
@@ -40539,34 +40746,6 @@ COLD atlas_search_Link atlas_search_table_head_in(const array_u16_8 *only, uint6
     return new_atlas_search_Link(4294967295u);
 }
 
-/* Whether an entry is no fork and has the size of another one.
- * crates/atlas_search/src/heap.rt
- */
-SMALL bool atlas_search_heap_is_alike_FreeBox(slice_FreeBox entries, atlas_search_Link top, atlas_search_Link at) {
-    atlas_model_Size size_4;
-    atlas_model_Size size_5;
-    bool is_7;
-    if (atlas_search_heap_is_fork_FreeBox(entries, top)) {
-        return false;
-    }
-    size_4 = atlas_search_heap_size_at_FreeBox(entries, top);
-    size_5 = atlas_search_heap_size_at_FreeBox(entries, at);
-    is_7 = size_4.width == size_5.width;
-    if (is_7) {
-        is_7 = size_4.height == size_5.height;
-    }
-    return is_7;
-}
-
-/* The `min` of an entry's rectangle as one number.
- * crates/atlas_search/src/heap.rt
- */
-SMALL uint64_t atlas_search_heap_corner_at_FreeBox(slice_FreeBox entries, atlas_search_Link at) {
-    atlas_model_Rectangle rectangle_3;
-    rectangle_3 = guillotiere_simple_boxes_FreeBoxEntry_rectangle(((guillotiere_FreeBox *)entries.at + (uint64_t)at.number));
-    return atlas_search_best_corner(rectangle_3);
-}
-
 /* crates/guillotiere/src/simple/boxes.rt */
 SMALL void guillotiere_simple_boxes_FreeBoxLinked_set_links(guillotiere_FreeBox *self, atlas_search_Link up, atlas_search_Link left,
         atlas_search_Link right) {
@@ -40578,6 +40757,15 @@ SMALL void guillotiere_simple_boxes_FreeBoxLinked_set_links(guillotiere_FreeBox 
 /* crates/guillotiere/src/simple/boxes.rt */
 SMALL void guillotiere_simple_boxes_FreeBoxLinked_set_fork(guillotiere_FreeBox *self, bool is_fork) {
     self->is_fork = is_fork;
+}
+
+/* The `min` of an entry's rectangle as one number.
+ * crates/atlas_search/src/heap.rt
+ */
+SMALL uint64_t atlas_search_heap_corner_at_FreeBox(slice_FreeBox entries, atlas_search_Link at) {
+    atlas_model_Rectangle rectangle_3;
+    rectangle_3 = guillotiere_simple_boxes_FreeBoxEntry_rectangle(((guillotiere_FreeBox *)entries.at + (uint64_t)at.number));
+    return atlas_search_best_corner(rectangle_3);
 }
 
 /* crates/guillotiere/src/simple/boxes.rt */
@@ -40593,6 +40781,54 @@ SMALL atlas_search_Link guillotiere_simple_boxes_FreeBoxEntry_left(const guillot
 /* crates/guillotiere/src/simple/boxes.rt */
 SMALL atlas_search_Link guillotiere_simple_boxes_FreeBoxEntry_right(const guillotiere_FreeBox *self) {
     return self->right;
+}
+
+/* crates/atlas_search/src/heap.rt */
+SMALL bool atlas_search_heap_is_fork_FreeBox(slice_FreeBox entries, atlas_search_Link at) {
+    return guillotiere_simple_boxes_FreeBoxEntry_is_fork(((guillotiere_FreeBox *)entries.at + (uint64_t)at.number));
+}
+
+/* An entry hangs below another one, or a tag.
+ * crates/atlas_search/src/heap.rt
+ */
+SMALL void atlas_search_heap_set_up_FreeBox(slice_FreeBox_2 entries, atlas_search_Link at, atlas_search_Link up) {
+    atlas_search_Links links_4;
+    links_4 = atlas_search_heap_links_at_FreeBox(new_slice_FreeBox(entries.at, entries.len), at);
+    atlas_search_heap_relink_FreeBox(new_slice_FreeBox_2(entries.at, entries.len), at, up, links_4.left, links_4.right);
+}
+
+/* Hangs a heap below the top of another one that comes before it. On the way down the right each passed entry's left goes
+ * right, and the next one left.
+ * crates/atlas_search/src/heap.rt
+ */
+SMALL void atlas_search_heap_hang_FreeBox(slice_FreeBox_2 entries, atlas_search_Link top, atlas_search_Link part) {
+    atlas_search_Link link_4;
+    atlas_search_Link link_5;
+    uint64_t n_6;
+    atlas_search_Link link_7;
+    uint64_t n_8;
+    atlas_search_Links links_11;
+    link_4 = top;
+    link_5 = part;
+    n_6 = atlas_search_heap_corner_at_FreeBox(new_slice_FreeBox(entries.at, entries.len), link_5);
+    for (;;) {
+        links_11 = atlas_search_heap_links_at_FreeBox(new_slice_FreeBox(entries.at, entries.len), link_4);
+        link_7 = links_11.right;
+        if (link_7.number == 4294967295u) {
+            atlas_search_heap_hang_left_FreeBox(new_slice_FreeBox_2(entries.at, entries.len), link_4, link_5);
+            return;
+        }
+        n_8 = atlas_search_heap_corner_at_FreeBox(new_slice_FreeBox(entries.at, entries.len), link_7);
+        if (n_6 < n_8) {
+            atlas_search_heap_hang_left_FreeBox(new_slice_FreeBox_2(entries.at, entries.len), link_4, link_5);
+            link_4 = link_5;
+            link_5 = link_7;
+            n_6 = n_8;
+        } else {
+            atlas_search_heap_swap_below_FreeBox(new_slice_FreeBox_2(entries.at, entries.len), link_4);
+            link_4 = link_7;
+        }
+    }
 }
 
 /* The step of a side.
@@ -40626,68 +40862,6 @@ SMALL atlas_search_Step atlas_search_cells_step_around(uint32_t side) {
     return step_3;
 }
 
-/* Two heaps as one, whose top hangs below `up`. Answers the top.
- * crates/atlas_search/src/heap.rt
- */
-SMALL atlas_search_Link atlas_search_heap_meld_FreeBox(slice_FreeBox_2 entries, atlas_search_Link one, atlas_search_Link other,
-        atlas_search_Link up) {
-    uint64_t n_5;
-    uint64_t n_8;
-    n_5 = atlas_search_heap_corner_at_FreeBox(new_slice_FreeBox(entries.at, entries.len), other);
-    n_8 = atlas_search_heap_corner_at_FreeBox(new_slice_FreeBox(entries.at, entries.len), one);
-    if (n_5 < n_8) {
-        atlas_search_heap_set_up_FreeBox(new_slice_FreeBox_2(entries.at, entries.len), other, up);
-        atlas_search_heap_hang_FreeBox(new_slice_FreeBox_2(entries.at, entries.len), other, one);
-        return other;
-    }
-    atlas_search_heap_set_up_FreeBox(new_slice_FreeBox_2(entries.at, entries.len), one, up);
-    atlas_search_heap_hang_FreeBox(new_slice_FreeBox_2(entries.at, entries.len), one, other);
-    return one;
-}
-
-/* The top of a heap becomes a fork, if it is none: what hangs below it, melded, hangs in the half of its own size.
- * crates/atlas_search/src/heap.rt
- */
-SMALL void atlas_search_heap_make_fork_FreeBox(slice_FreeBox_2 entries, atlas_search_Cell cell, atlas_search_Link top) {
-    atlas_search_Link link_4;
-    atlas_search_Link link_5;
-    atlas_model_Size size_6;
-    atlas_search_Link link_7;
-    atlas_search_Links links_11;
-    atlas_search_Halves halves_19;
-    if (atlas_search_heap_is_fork_FreeBox(new_slice_FreeBox(entries.at, entries.len), top)) {
-        return;
-    }
-    link_4 = new_atlas_search_Link(4294967295u);
-    links_11 = atlas_search_heap_links_at_FreeBox(new_slice_FreeBox(entries.at, entries.len), top);
-    link_5 = links_11.up;
-    size_6 = atlas_search_heap_size_at_FreeBox(new_slice_FreeBox(entries.at, entries.len), top);
-    link_7 = atlas_search_heap_close_FreeBox(new_slice_FreeBox_2(entries.at, entries.len), top, top);
-    halves_19 = atlas_search_cells_Cell_halves(cell);
-    if (atlas_search_cells_Cell_is_below_ends(halves_19.low, size_6)) {
-        atlas_search_heap_put_FreeBox(new_slice_FreeBox_2(entries.at, entries.len), top, link_5, link_7, link_4, true);
-    } else {
-        atlas_search_heap_put_FreeBox(new_slice_FreeBox_2(entries.at, entries.len), top, link_5, link_4, link_7, true);
-    }
-}
-
-/* These two, in order.
- * crates/atlas_search/src/heap.rt
- */
-SMALL atlas_search_Pair atlas_search_heap_in_order_FreeBox(slice_FreeBox entries, atlas_search_Link one, atlas_search_Link other) {
-    uint64_t n_4;
-    uint64_t n_5;
-    atlas_search_Pair pair_7;
-    n_4 = atlas_search_heap_corner_at_FreeBox(entries, other);
-    n_5 = atlas_search_heap_corner_at_FreeBox(entries, one);
-    if (n_4 < n_5) {
-        pair_7 = new_atlas_search_Pair(other, one);
-    } else {
-        pair_7 = new_atlas_search_Pair(one, other);
-    }
-    return pair_7;
-}
-
 /* The halves of a cell of more than one size.
  * crates/atlas_search/src/cells.rt
  */
@@ -40719,12 +40893,72 @@ SMALL bool atlas_search_cells_Cell_is_below_ends(atlas_search_Cell self, atlas_m
     return is_3;
 }
 
-/* An entry, if it is one, hangs below another one, or a tag.
- * crates/atlas_search/src/heap.rt
+/* An entry takes the place of a heap's top, which doesn't come before it, and hangs below `up`. That top goes on below it in the same way,
+ * in the half of its own size. The cell comes by its four sides, since a whole one would go through memory.
+ * crates/atlas_search/src/heap/sorting.rt
  */
-SMALL void atlas_search_heap_move_below_FreeBox(slice_FreeBox_2 entries, atlas_search_Link at, atlas_search_Link up) {
-    if (at.number != 4294967295u) {
-        atlas_search_heap_set_up_FreeBox(new_slice_FreeBox_2(entries.at, entries.len), at, up);
+PART void atlas_search_heap_sorting_sink_FreeBox(slice_FreeBox_2 entries, atlas_search_Link up, atlas_search_Link below,
+        atlas_search_Link at, uint32_t left, uint32_t right, uint32_t top, uint32_t bottom) {
+    atlas_search_Link link_9;
+    atlas_search_Cell cell_10;
+    atlas_search_Links links_11;
+    atlas_search_Halves halves_12;
+    atlas_search_Cell cell_13;
+    atlas_search_Cell cell_14;
+    atlas_model_Size size_34;
+    link_9 = new_atlas_search_Link(4294967295u);
+    if (below.number == 4294967295u) {
+        atlas_search_heap_put_FreeBox(new_slice_FreeBox_2(entries.at, entries.len), at, up, link_9, link_9, false);
+        return;
+    }
+    if (atlas_search_heap_is_alike_FreeBox(new_slice_FreeBox(entries.at, entries.len), below, at)) {
+        atlas_search_heap_put_FreeBox(new_slice_FreeBox_2(entries.at, entries.len), at, up, link_9, link_9, false);
+        atlas_search_heap_hang_FreeBox(new_slice_FreeBox_2(entries.at, entries.len), at, below);
+        return;
+    }
+    cell_10 = new_atlas_search_Cell(left, right, top, bottom);
+    atlas_search_heap_sorting_make_fork_FreeBox(new_slice_FreeBox_2(entries.at, entries.len), cell_10, below);
+    links_11 = atlas_search_heap_links_at_FreeBox(new_slice_FreeBox(entries.at, entries.len), below);
+    halves_12 = atlas_search_cells_Cell_halves(cell_10);
+    size_34 = atlas_search_heap_size_at_FreeBox(new_slice_FreeBox(entries.at, entries.len), below);
+    if (atlas_search_cells_Cell_is_below_ends(halves_12.low, size_34)) {
+        cell_13 = halves_12.low;
+        atlas_search_heap_put_FreeBox(new_slice_FreeBox_2(entries.at, entries.len), at, up, below, links_11.right, true);
+        atlas_search_heap_move_below_FreeBox(new_slice_FreeBox_2(entries.at, entries.len), links_11.right, at);
+        atlas_search_heap_sorting_sink_FreeBox(new_slice_FreeBox_2(entries.at, entries.len), at, links_11.left, below, cell_13.left,
+                cell_13.right, cell_13.top, cell_13.bottom);
+    } else {
+        cell_14 = halves_12.high;
+        atlas_search_heap_put_FreeBox(new_slice_FreeBox_2(entries.at, entries.len), at, up, links_11.left, below, true);
+        atlas_search_heap_move_below_FreeBox(new_slice_FreeBox_2(entries.at, entries.len), links_11.left, at);
+        atlas_search_heap_sorting_sink_FreeBox(new_slice_FreeBox_2(entries.at, entries.len), at, links_11.right, below, cell_14.left,
+                cell_14.right, cell_14.top, cell_14.bottom);
+    }
+}
+
+/* The top of a heap becomes a fork, if it is none: what hangs below it, melded, hangs in the half of its own size.
+ * crates/atlas_search/src/heap/sorting.rt
+ */
+SMALL void atlas_search_heap_sorting_make_fork_FreeBox(slice_FreeBox_2 entries, atlas_search_Cell cell, atlas_search_Link top) {
+    atlas_search_Link link_4;
+    atlas_search_Link link_5;
+    atlas_model_Size size_6;
+    atlas_search_Link link_7;
+    atlas_search_Links links_11;
+    atlas_search_Halves halves_19;
+    if (atlas_search_heap_is_fork_FreeBox(new_slice_FreeBox(entries.at, entries.len), top)) {
+        return;
+    }
+    link_4 = new_atlas_search_Link(4294967295u);
+    links_11 = atlas_search_heap_links_at_FreeBox(new_slice_FreeBox(entries.at, entries.len), top);
+    link_5 = links_11.up;
+    size_6 = atlas_search_heap_size_at_FreeBox(new_slice_FreeBox(entries.at, entries.len), top);
+    link_7 = atlas_search_heap_close_FreeBox(new_slice_FreeBox_2(entries.at, entries.len), top, top);
+    halves_19 = atlas_search_cells_Cell_halves(cell);
+    if (atlas_search_cells_Cell_is_below_ends(halves_19.low, size_6)) {
+        atlas_search_heap_put_FreeBox(new_slice_FreeBox_2(entries.at, entries.len), top, link_5, link_7, link_4, true);
+    } else {
+        atlas_search_heap_put_FreeBox(new_slice_FreeBox_2(entries.at, entries.len), top, link_5, link_4, link_7, true);
     }
 }
 
@@ -44691,9 +44925,9 @@ SMALL atlas_search_Link atlas_search_heap_close_Slot(slice_Slot_2 entries, atlas
 }
 
 /* Whether the left one of two entries comes first: it is there, and the right one isn't, or comes no earlier.
- * crates/atlas_search/src/heap.rt
+ * crates/atlas_search/src/heap/leaving.rt
  */
-SMALL bool atlas_search_heap_is_left_first_Slot(slice_Slot entries, atlas_search_Link left, atlas_search_Link right) {
+SMALL bool atlas_search_heap_leaving_is_left_first_Slot(slice_Slot entries, atlas_search_Link left, atlas_search_Link right) {
     uint64_t n_5;
     uint64_t n_6;
     if (left.number == 4294967295u) {
@@ -44707,21 +44941,82 @@ SMALL bool atlas_search_heap_is_left_first_Slot(slice_Slot entries, atlas_search
     return n_5 <= n_6;
 }
 
-/* An entry hangs below another one, or a tag.
- * crates/atlas_search/src/heap.rt
+/* Two heaps hung below a fork that goes. The top that comes first, the left one if `is_left`, takes its place below `up` and is a fork, and
+ * what hung below that one goes on in the same way.
+ * crates/atlas_search/src/heap/leaving.rt
  */
-SMALL void atlas_search_heap_set_up_Slot(slice_Slot_2 entries, atlas_search_Link at, atlas_search_Link up) {
-    atlas_search_Links links_4;
-    links_4 = atlas_search_heap_links_at_Slot(new_slice_Slot(entries.at, entries.len), at);
-    atlas_search_heap_relink_Slot(new_slice_Slot_2(entries.at, entries.len), at, up, links_4.left, links_4.right);
-}
-
-/* An entry, if it is one, hangs below another one, or a tag.
- * crates/atlas_search/src/heap.rt
- */
-SMALL void atlas_search_heap_move_below_Slot(slice_Slot_2 entries, atlas_search_Link at, atlas_search_Link up) {
-    if (at.number != 4294967295u) {
-        atlas_search_heap_set_up_Slot(new_slice_Slot_2(entries.at, entries.len), at, up);
+PART void atlas_search_heap_leaving_lift_Slot(slice_Slot_2 entries, atlas_search_Link up, atlas_search_Link left, atlas_search_Link right,
+        bool is_left) {
+    atlas_search_Link link_6;
+    atlas_search_Links links_7;
+    bool is_8;
+    atlas_search_Link link_9;
+    atlas_search_Link link_10;
+    atlas_search_Links links_11;
+    bool is_12;
+    atlas_search_Link link_13;
+    bool is_16;
+    bool is_26;
+    atlas_search_Link link_41;
+    bool is_49;
+    bool is_59;
+    atlas_search_Link link_74;
+    if (is_left) {
+        if (right.number == 4294967295u) {
+            is_16 = atlas_search_heap_is_fork_Slot(new_slice_Slot(entries.at, entries.len), left);
+            if (!is_16) {
+                atlas_search_heap_set_up_Slot(new_slice_Slot_2(entries.at, entries.len), left, up);
+                return;
+            }
+        }
+        atlas_search_heap_move_below_Slot(new_slice_Slot_2(entries.at, entries.len), right, left);
+        is_26 = atlas_search_heap_is_fork_Slot(new_slice_Slot(entries.at, entries.len), left);
+        if (!is_26) {
+            link_6 = atlas_search_heap_close_Slot(new_slice_Slot_2(entries.at, entries.len), left, left);
+            atlas_search_heap_put_Slot(new_slice_Slot_2(entries.at, entries.len), left, up, link_6, right, true);
+            return;
+        }
+        links_7 = atlas_search_heap_links_at_Slot(new_slice_Slot(entries.at, entries.len), left);
+        is_8 = atlas_search_heap_leaving_is_left_first_Slot(new_slice_Slot(entries.at, entries.len), links_7.left, links_7.right);
+        if (is_8) {
+            link_41 = links_7.left;
+        } else {
+            link_41 = links_7.right;
+        }
+        link_9 = link_41;
+        atlas_search_heap_put_Slot(new_slice_Slot_2(entries.at, entries.len), left, up, link_9, right, true);
+        if (link_9.number == 4294967295u) {
+            return;
+        }
+        atlas_search_heap_leaving_lift_Slot(new_slice_Slot_2(entries.at, entries.len), left, links_7.left, links_7.right, is_8);
+    } else {
+        if (left.number == 4294967295u) {
+            is_49 = atlas_search_heap_is_fork_Slot(new_slice_Slot(entries.at, entries.len), right);
+            if (!is_49) {
+                atlas_search_heap_set_up_Slot(new_slice_Slot_2(entries.at, entries.len), right, up);
+                return;
+            }
+        }
+        atlas_search_heap_move_below_Slot(new_slice_Slot_2(entries.at, entries.len), left, right);
+        is_59 = atlas_search_heap_is_fork_Slot(new_slice_Slot(entries.at, entries.len), right);
+        if (!is_59) {
+            link_10 = atlas_search_heap_close_Slot(new_slice_Slot_2(entries.at, entries.len), right, right);
+            atlas_search_heap_put_Slot(new_slice_Slot_2(entries.at, entries.len), right, up, left, link_10, true);
+            return;
+        }
+        links_11 = atlas_search_heap_links_at_Slot(new_slice_Slot(entries.at, entries.len), right);
+        is_12 = atlas_search_heap_leaving_is_left_first_Slot(new_slice_Slot(entries.at, entries.len), links_11.left, links_11.right);
+        if (is_12) {
+            link_74 = links_11.left;
+        } else {
+            link_74 = links_11.right;
+        }
+        link_13 = link_74;
+        atlas_search_heap_put_Slot(new_slice_Slot_2(entries.at, entries.len), right, up, left, link_13, true);
+        if (link_13.number == 4294967295u) {
+            return;
+        }
+        atlas_search_heap_leaving_lift_Slot(new_slice_Slot_2(entries.at, entries.len), right, links_11.left, links_11.right, is_12);
     }
 }
 
@@ -44775,23 +45070,9 @@ SMALL tuple_Rectangle_Rectangle atlas_store_slots_placing_cut_area(atlas_model_R
     return new_tuple_Rectangle_Rectangle(rectangle_5, rectangle_6);
 }
 
-/* Whether an entry is no fork and has the size of another one.
- * crates/atlas_search/src/heap.rt
- */
-SMALL bool atlas_search_heap_is_alike_Slot(slice_Slot entries, atlas_search_Link top, atlas_search_Link at) {
-    atlas_model_Size size_4;
-    atlas_model_Size size_5;
-    bool is_7;
-    if (atlas_search_heap_is_fork_Slot(entries, top)) {
-        return false;
-    }
-    size_4 = atlas_search_heap_size_at_Slot(entries, top);
-    size_5 = atlas_search_heap_size_at_Slot(entries, at);
-    is_7 = size_4.width == size_5.width;
-    if (is_7) {
-        is_7 = size_4.height == size_5.height;
-    }
-    return is_7;
+/* crates/atlas_store/src/slots/entry.rt */
+SMALL void atlas_store_slots_entry_SlotLinked_set_fork(atlas_store_Slot *self, bool is_fork) {
+    self->is_fork = is_fork;
 }
 
 /* The `min` of an entry's rectangle as one number.
@@ -44803,34 +45084,96 @@ SMALL uint64_t atlas_search_heap_corner_at_Slot(slice_Slot entries, atlas_search
     return atlas_search_best_corner(rectangle_3);
 }
 
-/* crates/atlas_store/src/slots/entry.rt */
-SMALL void atlas_store_slots_entry_SlotLinked_set_fork(atlas_store_Slot *self, bool is_fork) {
-    self->is_fork = is_fork;
-}
-
-/* Two heaps as one, whose top hangs below `up`. Answers the top.
+/* An entry hangs below another one, or a tag.
  * crates/atlas_search/src/heap.rt
  */
-SMALL atlas_search_Link atlas_search_heap_meld_Slot(slice_Slot_2 entries, atlas_search_Link one, atlas_search_Link other,
-        atlas_search_Link up) {
-    uint64_t n_5;
+SMALL void atlas_search_heap_set_up_Slot(slice_Slot_2 entries, atlas_search_Link at, atlas_search_Link up) {
+    atlas_search_Links links_4;
+    links_4 = atlas_search_heap_links_at_Slot(new_slice_Slot(entries.at, entries.len), at);
+    atlas_search_heap_relink_Slot(new_slice_Slot_2(entries.at, entries.len), at, up, links_4.left, links_4.right);
+}
+
+/* Hangs a heap below the top of another one that comes before it. On the way down the right each passed entry's left goes
+ * right, and the next one left.
+ * crates/atlas_search/src/heap.rt
+ */
+SMALL void atlas_search_heap_hang_Slot(slice_Slot_2 entries, atlas_search_Link top, atlas_search_Link part) {
+    atlas_search_Link link_4;
+    atlas_search_Link link_5;
+    uint64_t n_6;
+    atlas_search_Link link_7;
     uint64_t n_8;
-    n_5 = atlas_search_heap_corner_at_Slot(new_slice_Slot(entries.at, entries.len), other);
-    n_8 = atlas_search_heap_corner_at_Slot(new_slice_Slot(entries.at, entries.len), one);
-    if (n_5 < n_8) {
-        atlas_search_heap_set_up_Slot(new_slice_Slot_2(entries.at, entries.len), other, up);
-        atlas_search_heap_hang_Slot(new_slice_Slot_2(entries.at, entries.len), other, one);
-        return other;
+    atlas_search_Links links_11;
+    link_4 = top;
+    link_5 = part;
+    n_6 = atlas_search_heap_corner_at_Slot(new_slice_Slot(entries.at, entries.len), link_5);
+    for (;;) {
+        links_11 = atlas_search_heap_links_at_Slot(new_slice_Slot(entries.at, entries.len), link_4);
+        link_7 = links_11.right;
+        if (link_7.number == 4294967295u) {
+            atlas_search_heap_hang_left_Slot(new_slice_Slot_2(entries.at, entries.len), link_4, link_5);
+            return;
+        }
+        n_8 = atlas_search_heap_corner_at_Slot(new_slice_Slot(entries.at, entries.len), link_7);
+        if (n_6 < n_8) {
+            atlas_search_heap_hang_left_Slot(new_slice_Slot_2(entries.at, entries.len), link_4, link_5);
+            link_4 = link_5;
+            link_5 = link_7;
+            n_6 = n_8;
+        } else {
+            atlas_search_heap_swap_below_Slot(new_slice_Slot_2(entries.at, entries.len), link_4);
+            link_4 = link_7;
+        }
     }
-    atlas_search_heap_set_up_Slot(new_slice_Slot_2(entries.at, entries.len), one, up);
-    atlas_search_heap_hang_Slot(new_slice_Slot_2(entries.at, entries.len), one, other);
-    return one;
+}
+
+/* An entry takes the place of a heap's top, which doesn't come before it, and hangs below `up`. That top goes on below it in the same way,
+ * in the half of its own size. The cell comes by its four sides, since a whole one would go through memory.
+ * crates/atlas_search/src/heap/sorting.rt
+ */
+PART void atlas_search_heap_sorting_sink_Slot(slice_Slot_2 entries, atlas_search_Link up, atlas_search_Link below, atlas_search_Link at,
+        uint32_t left, uint32_t right, uint32_t top, uint32_t bottom) {
+    atlas_search_Link link_9;
+    atlas_search_Cell cell_10;
+    atlas_search_Links links_11;
+    atlas_search_Halves halves_12;
+    atlas_search_Cell cell_13;
+    atlas_search_Cell cell_14;
+    atlas_model_Size size_34;
+    link_9 = new_atlas_search_Link(4294967295u);
+    if (below.number == 4294967295u) {
+        atlas_search_heap_put_Slot(new_slice_Slot_2(entries.at, entries.len), at, up, link_9, link_9, false);
+        return;
+    }
+    if (atlas_search_heap_is_alike_Slot(new_slice_Slot(entries.at, entries.len), below, at)) {
+        atlas_search_heap_put_Slot(new_slice_Slot_2(entries.at, entries.len), at, up, link_9, link_9, false);
+        atlas_search_heap_hang_Slot(new_slice_Slot_2(entries.at, entries.len), at, below);
+        return;
+    }
+    cell_10 = new_atlas_search_Cell(left, right, top, bottom);
+    atlas_search_heap_sorting_make_fork_Slot(new_slice_Slot_2(entries.at, entries.len), cell_10, below);
+    links_11 = atlas_search_heap_links_at_Slot(new_slice_Slot(entries.at, entries.len), below);
+    halves_12 = atlas_search_cells_Cell_halves(cell_10);
+    size_34 = atlas_search_heap_size_at_Slot(new_slice_Slot(entries.at, entries.len), below);
+    if (atlas_search_cells_Cell_is_below_ends(halves_12.low, size_34)) {
+        cell_13 = halves_12.low;
+        atlas_search_heap_put_Slot(new_slice_Slot_2(entries.at, entries.len), at, up, below, links_11.right, true);
+        atlas_search_heap_move_below_Slot(new_slice_Slot_2(entries.at, entries.len), links_11.right, at);
+        atlas_search_heap_sorting_sink_Slot(new_slice_Slot_2(entries.at, entries.len), at, links_11.left, below, cell_13.left,
+                cell_13.right, cell_13.top, cell_13.bottom);
+    } else {
+        cell_14 = halves_12.high;
+        atlas_search_heap_put_Slot(new_slice_Slot_2(entries.at, entries.len), at, up, links_11.left, below, true);
+        atlas_search_heap_move_below_Slot(new_slice_Slot_2(entries.at, entries.len), links_11.left, at);
+        atlas_search_heap_sorting_sink_Slot(new_slice_Slot_2(entries.at, entries.len), at, links_11.right, below, cell_14.left,
+                cell_14.right, cell_14.top, cell_14.bottom);
+    }
 }
 
 /* The top of a heap becomes a fork, if it is none: what hangs below it, melded, hangs in the half of its own size.
- * crates/atlas_search/src/heap.rt
+ * crates/atlas_search/src/heap/sorting.rt
  */
-SMALL void atlas_search_heap_make_fork_Slot(slice_Slot_2 entries, atlas_search_Cell cell, atlas_search_Link top) {
+SMALL void atlas_search_heap_sorting_make_fork_Slot(slice_Slot_2 entries, atlas_search_Cell cell, atlas_search_Link top) {
     atlas_search_Link link_4;
     atlas_search_Link link_5;
     atlas_model_Size size_6;
@@ -44853,28 +45196,82 @@ SMALL void atlas_search_heap_make_fork_Slot(slice_Slot_2 entries, atlas_search_C
     }
 }
 
-/* These two, in order.
- * crates/atlas_search/src/heap.rt
- */
-SMALL atlas_search_Pair atlas_search_heap_in_order_Slot(slice_Slot entries, atlas_search_Link one, atlas_search_Link other) {
-    uint64_t n_4;
-    uint64_t n_5;
-    atlas_search_Pair pair_7;
-    n_4 = atlas_search_heap_corner_at_Slot(entries, other);
-    n_5 = atlas_search_heap_corner_at_Slot(entries, one);
-    if (n_4 < n_5) {
-        pair_7 = new_atlas_search_Pair(other, one);
-    } else {
-        pair_7 = new_atlas_search_Pair(one, other);
-    }
-    return pair_7;
-}
-
 /* A side, and so much more.
  * crates/atlas_search/src/best.rt
  */
 SMALL uint32_t atlas_search_best_longer(uint32_t side, uint32_t more) {
     return side + more;
+}
+
+/* The `min` of a box as one number, the greater the later the box comes: the y, and below it the x.
+ * crates/atlas_search/src/best.rt
+ */
+SMALL uint64_t atlas_search_best_corner(atlas_model_Rectangle rectangle) {
+    return ((uint64_t)rectangle.min_.y * UINT64_C(4294967296)) + (uint64_t)rectangle.min_.x;
+}
+
+/* Whether the best leaves over 1 or nothing and begins at this corner or before it: of boxes that are longer on both sides than the
+ * request, none that begins there or later is better.
+ * crates/atlas_search/src/best.rt
+ */
+SMALL bool atlas_search_best_Best_passes_larger(const atlas_search_Best *self, uint64_t corner) {
+    bool is_3;
+    is_3 = self->reach <= 1u;
+    if (is_3) {
+        is_3 = self->corner <= corner;
+    }
+    return is_3;
+}
+
+/* Shows the box of an entry, which has this corner and is longer on both sides than the request.
+ * crates/atlas_search/src/best.rt
+ */
+SMALL void atlas_search_best_Best_look_larger(atlas_search_Best *self, atlas_model_Rectangle rectangle, uint64_t corner,
+        atlas_search_Link at) {
+    uint32_t n_5;
+    uint32_t n_6;
+    uint32_t n_7;
+    atlas_model_Size size_14;
+    bool is_15;
+    uint32_t n_16;
+    uint32_t n_17;
+    uint64_t n_18;
+    uint32_t n_21;
+    n_6 = self->flip;
+    n_7 = atlas_search_choice_margin_in(rectangle, self->size);
+    n_5 = atlas_search_best_rank_above_zero(n_6, n_7);
+    if (atlas_search_best_Best_is_beaten_by(self, n_5, corner)) {
+        size_14 = self->size;
+        is_15 = self->is_large;
+        n_16 = self->flip;
+        n_17 = n_5;
+        n_18 = corner;
+        if (self->is_large) {
+            n_21 = 4294967295u;
+        } else {
+            n_21 = n_5;
+        }
+        *self = new_atlas_search_Best(size_14, is_15, n_16, n_17, n_18, UINT64_C(18446744073709551615), n_21, at);
+    }
+}
+
+/* crates/atlas_store/src/slots/entry.rt */
+SMALL bool atlas_store_slots_entry_SlotEntry_is_fork(const atlas_store_Slot *self) {
+    return self->is_fork;
+}
+
+/* Whether no box of a size in this cell that begins at this corner or later is better than the best, since each leaves over as much as
+ * that or more. It isn't said where the best has an equal side, nor of a large request.
+ * crates/atlas_search/src/best.rt
+ */
+SMALL bool atlas_search_best_Best_ends_in(const atlas_search_Best *self, atlas_search_Cell cell, uint64_t corner) {
+    if (corner < self->corner) {
+        return false;
+    }
+    if (self->reach == 0u) {
+        return false;
+    }
+    return atlas_search_cells_Cell_is_beyond(cell, self->size, self->reach - 1u);
 }
 
 /* Whether the best has an equal side and begins at this corner or before it: no box that begins there or later is
@@ -44917,25 +45314,6 @@ SMALL bool atlas_search_best_Best_look(atlas_search_Best *self, atlas_model_Rect
         return n_5 == 0u;
     }
     return false;
-}
-
-/* crates/atlas_store/src/slots/entry.rt */
-SMALL bool atlas_store_slots_entry_SlotEntry_is_fork(const atlas_store_Slot *self) {
-    return self->is_fork;
-}
-
-/* Whether both sides of a size, and so much more, are before the first ones.
- * crates/atlas_search/src/cells.rt
- */
-SMALL bool atlas_search_cells_Cell_is_beyond(atlas_search_Cell self, atlas_model_Size size, uint32_t more) {
-    uint64_t n_5;
-    bool is_9;
-    is_9 = ((uint64_t)size.width + (uint64_t)more) < (uint64_t)self.left;
-    n_5 = (uint64_t)size.height + (uint64_t)more;
-    if (is_9) {
-        is_9 = n_5 < (uint64_t)self.top;
-    }
-    return is_9;
 }
 
 /* Whether the request may fit a box of a size in this cell: both of its sides are before the ends.
@@ -45184,6 +45562,35 @@ SMALL void guillotiere_c_Destruct_none_drop_FreeBox(guillotiere_FreeBox given_1)
     (void)given_1;
 }
 
+/* Shows a list of sizes that are larger than the request's, both sides, to a search. It may be enough to look at its first entry.
+ * crates/atlas_search/src/search.rt
+ */
+SMALL void atlas_search_search_show_larger_FreeBox(slice_FreeBox entries, atlas_search_Link top, atlas_search_Best *best) {
+    const guillotiere_FreeBox *at_4;
+    atlas_model_Rectangle rectangle_5;
+    uint64_t n_6;
+    atlas_search_Cell cell_7;
+    atlas_model_Size size_17;
+    if (entries.len <= (uint64_t)top.number) {
+        return;
+    }
+    at_4 = ((guillotiere_FreeBox *)entries.at + (uint64_t)top.number);
+    rectangle_5 = guillotiere_simple_boxes_FreeBoxEntry_rectangle(at_4);
+    n_6 = atlas_search_best_corner(rectangle_5);
+    if (atlas_search_best_Best_passes_larger(best, n_6)) {
+        return;
+    }
+    atlas_search_best_Best_look_larger(best, rectangle_5, n_6, top);
+    if (guillotiere_simple_boxes_FreeBoxEntry_is_fork(at_4)) {
+        size_17 = atlas_search_cut_exact_size(rectangle_5);
+        cell_7 = atlas_search_cells_Cell_around(size_17);
+        if (atlas_search_best_Best_ends_in(best, cell_7, n_6)) {
+            return;
+        }
+        atlas_search_search_show_halves_FreeBox(entries, at_4, cell_7, best);
+    }
+}
+
 /* Shows an entry to a search. Answers whether one that hangs below it may be better: where it is a fork, since else those have
  * its size and come no earlier, and where neither it nor a best that comes no later has an equal side.
  * crates/atlas_search/src/search.rt
@@ -45223,47 +45630,30 @@ SMALL void atlas_search_search_show_halves_FreeBox(slice_FreeBox entries, const 
 }
 
 /* What hangs below an entry becomes one heap, which hangs below `up`. Of a fork's two sides the top that comes first comes up.
- * crates/atlas_search/src/heap.rt
+ * crates/atlas_search/src/heap/leaving.rt
  */
-PART atlas_search_Link atlas_search_heap_leave_FreeBox(slice_FreeBox_2 entries, atlas_search_Link at, atlas_search_Link up) {
+SMALL atlas_search_Link atlas_search_heap_leaving_leave_FreeBox(slice_FreeBox_2 entries, atlas_search_Link at, atlas_search_Link up) {
     atlas_search_Links links_4;
-    atlas_search_Link link_5;
+    bool is_5;
     atlas_search_Link link_6;
     bool is_7;
-    bool is_21;
-    bool is_44;
+    atlas_search_Link link_19;
     is_7 = atlas_search_heap_is_fork_FreeBox(new_slice_FreeBox(entries.at, entries.len), at);
     if (!is_7) {
         return atlas_search_heap_close_FreeBox(new_slice_FreeBox_2(entries.at, entries.len), at, up);
     }
     links_4 = atlas_search_heap_links_at_FreeBox(new_slice_FreeBox(entries.at, entries.len), at);
-    if (atlas_search_heap_is_left_first_FreeBox(new_slice_FreeBox(entries.at, entries.len), links_4.left, links_4.right)) {
-        if (links_4.right.number == 4294967295u) {
-            is_21 = atlas_search_heap_is_fork_FreeBox(new_slice_FreeBox(entries.at, entries.len), links_4.left);
-            if (!is_21) {
-                atlas_search_heap_set_up_FreeBox(new_slice_FreeBox_2(entries.at, entries.len), links_4.left, up);
-                return links_4.left;
-            }
-        }
-        link_5 = atlas_search_heap_leave_FreeBox(new_slice_FreeBox_2(entries.at, entries.len), links_4.left, links_4.left);
-        atlas_search_heap_move_below_FreeBox(new_slice_FreeBox_2(entries.at, entries.len), links_4.right, links_4.left);
-        atlas_search_heap_put_FreeBox(new_slice_FreeBox_2(entries.at, entries.len), links_4.left, up, link_5, links_4.right, true);
-        return links_4.left;
+    is_5 = atlas_search_heap_leaving_is_left_first_FreeBox(new_slice_FreeBox(entries.at, entries.len), links_4.left, links_4.right);
+    if (is_5) {
+        link_19 = links_4.left;
+    } else {
+        link_19 = links_4.right;
     }
-    if (links_4.right.number == 4294967295u) {
-        return links_4.right;
+    link_6 = link_19;
+    if (link_6.number != 4294967295u) {
+        atlas_search_heap_leaving_lift_FreeBox(new_slice_FreeBox_2(entries.at, entries.len), up, links_4.left, links_4.right, is_5);
     }
-    if (links_4.left.number == 4294967295u) {
-        is_44 = atlas_search_heap_is_fork_FreeBox(new_slice_FreeBox(entries.at, entries.len), links_4.right);
-        if (!is_44) {
-            atlas_search_heap_set_up_FreeBox(new_slice_FreeBox_2(entries.at, entries.len), links_4.right, up);
-            return links_4.right;
-        }
-    }
-    link_6 = atlas_search_heap_leave_FreeBox(new_slice_FreeBox_2(entries.at, entries.len), links_4.right, links_4.right);
-    atlas_search_heap_move_below_FreeBox(new_slice_FreeBox_2(entries.at, entries.len), links_4.left, links_4.right);
-    atlas_search_heap_put_FreeBox(new_slice_FreeBox_2(entries.at, entries.len), links_4.right, up, links_4.left, link_6, true);
-    return links_4.right;
+    return link_6;
 }
 
 /* guillotiere::Destruct++none::drop */
@@ -45271,9 +45661,28 @@ SMALL void guillotiere_Destruct_none_drop_FreeBox(guillotiere_FreeBox given_1) {
     (void)given_1;
 }
 
-/* crates/atlas_search/src/heap.rt */
-SMALL bool atlas_search_heap_is_fork_FreeBox(slice_FreeBox entries, atlas_search_Link at) {
-    return guillotiere_simple_boxes_FreeBoxEntry_is_fork(((guillotiere_FreeBox *)entries.at + (uint64_t)at.number));
+/* crates/guillotiere/src/simple/boxes.rt */
+SMALL bool guillotiere_simple_boxes_FreeBoxEntry_is_fork(const guillotiere_FreeBox *self) {
+    return self->is_fork;
+}
+
+/* Hangs an entry, with all below it, to the left below another one. What was there hangs to the right then.
+ * crates/atlas_search/src/heap.rt
+ */
+SMALL void atlas_search_heap_hang_left_FreeBox(slice_FreeBox_2 entries, atlas_search_Link above, atlas_search_Link less) {
+    atlas_search_Links links_4;
+    links_4 = atlas_search_heap_links_at_FreeBox(new_slice_FreeBox(entries.at, entries.len), above);
+    atlas_search_heap_relink_FreeBox(new_slice_FreeBox_2(entries.at, entries.len), above, links_4.up, less, links_4.left);
+    atlas_search_heap_set_up_FreeBox(new_slice_FreeBox_2(entries.at, entries.len), less, above);
+}
+
+/* What hangs on the right below an entry hangs on the left then, and the other way round.
+ * crates/atlas_search/src/heap.rt
+ */
+SMALL void atlas_search_heap_swap_below_FreeBox(slice_FreeBox_2 entries, atlas_search_Link above) {
+    atlas_search_Links links_3;
+    links_3 = atlas_search_heap_links_at_FreeBox(new_slice_FreeBox(entries.at, entries.len), above);
+    atlas_search_heap_relink_FreeBox(new_slice_FreeBox_2(entries.at, entries.len), above, links_3.up, links_3.right, links_3.left);
 }
 
 /* The step of a side: so many sides from a multiple on.
@@ -45283,68 +45692,6 @@ SMALL atlas_search_Step atlas_search_cells_step_from(uint32_t side, uint32_t man
     uint32_t n_3;
     n_3 = (side / many) * many;
     return new_atlas_search_Step(n_3, n_3 + many);
-}
-
-/* An entry hangs below another one, or a tag.
- * crates/atlas_search/src/heap.rt
- */
-SMALL void atlas_search_heap_set_up_FreeBox(slice_FreeBox_2 entries, atlas_search_Link at, atlas_search_Link up) {
-    atlas_search_Links links_4;
-    links_4 = atlas_search_heap_links_at_FreeBox(new_slice_FreeBox(entries.at, entries.len), at);
-    atlas_search_heap_relink_FreeBox(new_slice_FreeBox_2(entries.at, entries.len), at, up, links_4.left, links_4.right);
-}
-
-/* Hangs a heap below the top of another one that comes before it. On the way down the right each passed entry's left goes
- * right, and the next one left.
- * crates/atlas_search/src/heap.rt
- */
-SMALL void atlas_search_heap_hang_FreeBox(slice_FreeBox_2 entries, atlas_search_Link top, atlas_search_Link part) {
-    atlas_search_Link link_4;
-    atlas_search_Link link_5;
-    uint64_t n_6;
-    atlas_search_Link link_7;
-    uint64_t n_8;
-    atlas_search_Links links_11;
-    link_4 = top;
-    link_5 = part;
-    n_6 = atlas_search_heap_corner_at_FreeBox(new_slice_FreeBox(entries.at, entries.len), link_5);
-    for (;;) {
-        links_11 = atlas_search_heap_links_at_FreeBox(new_slice_FreeBox(entries.at, entries.len), link_4);
-        link_7 = links_11.right;
-        if (link_7.number == 4294967295u) {
-            atlas_search_heap_hang_left_FreeBox(new_slice_FreeBox_2(entries.at, entries.len), link_4, link_5);
-            return;
-        }
-        n_8 = atlas_search_heap_corner_at_FreeBox(new_slice_FreeBox(entries.at, entries.len), link_7);
-        if (n_6 < n_8) {
-            atlas_search_heap_hang_left_FreeBox(new_slice_FreeBox_2(entries.at, entries.len), link_4, link_5);
-            link_4 = link_5;
-            link_5 = link_7;
-            n_6 = n_8;
-        } else {
-            atlas_search_heap_swap_below_FreeBox(new_slice_FreeBox_2(entries.at, entries.len), link_4);
-            link_4 = link_7;
-        }
-    }
-}
-
-/* What hangs below an entry that is no fork becomes one heap, which hangs below `up`. Answers its top, or none.
- * crates/atlas_search/src/heap.rt
- */
-SMALL atlas_search_Link atlas_search_heap_close_FreeBox(slice_FreeBox_2 entries, atlas_search_Link at, atlas_search_Link up) {
-    atlas_search_Links links_4;
-    links_4 = atlas_search_heap_links_at_FreeBox(new_slice_FreeBox(entries.at, entries.len), at);
-    if (links_4.left.number == 4294967295u) {
-        if (links_4.right.number != 4294967295u) {
-            atlas_search_heap_set_up_FreeBox(new_slice_FreeBox_2(entries.at, entries.len), links_4.right, up);
-        }
-        return links_4.right;
-    }
-    if (links_4.right.number == 4294967295u) {
-        atlas_search_heap_set_up_FreeBox(new_slice_FreeBox_2(entries.at, entries.len), links_4.left, up);
-        return links_4.left;
-    }
-    return atlas_search_heap_meld_FreeBox(new_slice_FreeBox_2(entries.at, entries.len), links_4.left, links_4.right, up);
 }
 
 /* Whether it is divided by width.
@@ -45374,6 +45721,34 @@ SMALL bool atlas_search_cells_Cell_is_cut_wide(atlas_search_Cell self) {
  */
 SMALL uint32_t atlas_search_cells_middle(uint32_t first, uint32_t end) {
     return core_int_u32_min(first + ((end - first) / 2u), 2u * first);
+}
+
+/* An entry, if it is one, hangs below another one, or a tag.
+ * crates/atlas_search/src/heap.rt
+ */
+SMALL void atlas_search_heap_move_below_FreeBox(slice_FreeBox_2 entries, atlas_search_Link at, atlas_search_Link up) {
+    if (at.number != 4294967295u) {
+        atlas_search_heap_set_up_FreeBox(new_slice_FreeBox_2(entries.at, entries.len), at, up);
+    }
+}
+
+/* What hangs below an entry that is no fork becomes one heap, which hangs below `up`. Answers its top, or none.
+ * crates/atlas_search/src/heap.rt
+ */
+SMALL atlas_search_Link atlas_search_heap_close_FreeBox(slice_FreeBox_2 entries, atlas_search_Link at, atlas_search_Link up) {
+    atlas_search_Links links_4;
+    links_4 = atlas_search_heap_links_at_FreeBox(new_slice_FreeBox(entries.at, entries.len), at);
+    if (links_4.left.number == 4294967295u) {
+        if (links_4.right.number != 4294967295u) {
+            atlas_search_heap_set_up_FreeBox(new_slice_FreeBox_2(entries.at, entries.len), links_4.right, up);
+        }
+        return links_4.right;
+    }
+    if (links_4.right.number == 4294967295u) {
+        atlas_search_heap_set_up_FreeBox(new_slice_FreeBox_2(entries.at, entries.len), links_4.left, up);
+        return links_4.left;
+    }
+    return atlas_search_heap_meld_FreeBox(new_slice_FreeBox_2(entries.at, entries.len), links_4.left, links_4.right, up);
 }
 
 /* guillotiere::Destruct++none::drop */
@@ -48839,6 +49214,15 @@ SMALL void atlas_store_Destruct_none_drop_Marks(const atlas_search_Marks given_1
     (void)given_1;
 }
 
+/* An entry, if it is one, hangs below another one, or a tag.
+ * crates/atlas_search/src/heap.rt
+ */
+SMALL void atlas_search_heap_move_below_Slot(slice_Slot_2 entries, atlas_search_Link at, atlas_search_Link up) {
+    if (at.number != 4294967295u) {
+        atlas_search_heap_set_up_Slot(new_slice_Slot_2(entries.at, entries.len), at, up);
+    }
+}
+
 /* Takes the mark of a place away.
  * crates/atlas_search/src/marks.rt
  */
@@ -48856,38 +49240,63 @@ SMALL void atlas_search_marks_Marks_unmark(atlas_search_Marks *self, atlas_searc
     }
 }
 
-/* Hangs a heap below the top of another one that comes before it. On the way down the right each passed entry's left goes
- * right, and the next one left.
+/* Hangs an entry, with all below it, to the left below another one. What was there hangs to the right then.
  * crates/atlas_search/src/heap.rt
  */
-SMALL void atlas_search_heap_hang_Slot(slice_Slot_2 entries, atlas_search_Link top, atlas_search_Link part) {
-    atlas_search_Link link_4;
-    atlas_search_Link link_5;
-    uint64_t n_6;
-    atlas_search_Link link_7;
-    uint64_t n_8;
-    atlas_search_Links links_11;
-    link_4 = top;
-    link_5 = part;
-    n_6 = atlas_search_heap_corner_at_Slot(new_slice_Slot(entries.at, entries.len), link_5);
-    for (;;) {
-        links_11 = atlas_search_heap_links_at_Slot(new_slice_Slot(entries.at, entries.len), link_4);
-        link_7 = links_11.right;
-        if (link_7.number == 4294967295u) {
-            atlas_search_heap_hang_left_Slot(new_slice_Slot_2(entries.at, entries.len), link_4, link_5);
-            return;
+SMALL void atlas_search_heap_hang_left_Slot(slice_Slot_2 entries, atlas_search_Link above, atlas_search_Link less) {
+    atlas_search_Links links_4;
+    links_4 = atlas_search_heap_links_at_Slot(new_slice_Slot(entries.at, entries.len), above);
+    atlas_search_heap_relink_Slot(new_slice_Slot_2(entries.at, entries.len), above, links_4.up, less, links_4.left);
+    atlas_search_heap_set_up_Slot(new_slice_Slot_2(entries.at, entries.len), less, above);
+}
+
+/* What hangs on the right below an entry hangs on the left then, and the other way round.
+ * crates/atlas_search/src/heap.rt
+ */
+SMALL void atlas_search_heap_swap_below_Slot(slice_Slot_2 entries, atlas_search_Link above) {
+    atlas_search_Links links_3;
+    links_3 = atlas_search_heap_links_at_Slot(new_slice_Slot(entries.at, entries.len), above);
+    atlas_search_heap_relink_Slot(new_slice_Slot_2(entries.at, entries.len), above, links_3.up, links_3.right, links_3.left);
+}
+
+/* The rank of a box with this least margin, if that is above 0.
+ * crates/atlas_search/src/best.rt
+ */
+SMALL uint32_t atlas_search_best_rank_above_zero(uint32_t flip, uint32_t margin) {
+    uint32_t n_3;
+    n_3 = core_int_i32_cast_unsigned(margin);
+    return n_3 ^ flip;
+}
+
+/* Whether a box of this rank with this corner is to be kept rather than the best one.
+ * crates/atlas_search/src/best.rt
+ */
+SMALL bool atlas_search_best_Best_is_beaten_by(const atlas_search_Best *self, uint32_t rank, uint64_t corner) {
+    bool is_4;
+    bool is_6;
+    is_4 = rank < self->rank;
+    if (!is_4) {
+        is_6 = rank == self->rank;
+        if (is_6) {
+            is_6 = corner < self->corner;
         }
-        n_8 = atlas_search_heap_corner_at_Slot(new_slice_Slot(entries.at, entries.len), link_7);
-        if (n_6 < n_8) {
-            atlas_search_heap_hang_left_Slot(new_slice_Slot_2(entries.at, entries.len), link_4, link_5);
-            link_4 = link_5;
-            link_5 = link_7;
-            n_6 = n_8;
-        } else {
-            atlas_search_heap_swap_below_Slot(new_slice_Slot_2(entries.at, entries.len), link_4);
-            link_4 = link_7;
-        }
+        is_4 = is_6;
     }
+    return is_4;
+}
+
+/* Whether both sides of a size, and so much more, are before the first ones.
+ * crates/atlas_search/src/cells.rt
+ */
+SMALL bool atlas_search_cells_Cell_is_beyond(atlas_search_Cell self, atlas_model_Size size, uint32_t more) {
+    uint64_t n_5;
+    bool is_9;
+    is_9 = ((uint64_t)size.width + (uint64_t)more) < (uint64_t)self.left;
+    n_5 = (uint64_t)size.height + (uint64_t)more;
+    if (is_9) {
+        is_9 = n_5 < (uint64_t)self.top;
+    }
+    return is_9;
 }
 
 /* The rank of a box with this corner, if it is to be kept rather than the best one.
@@ -49130,11 +49539,6 @@ SMALL void core_slice_edits_mirror_Allocation(slice_Allocation_2 front, uint64_t
     }
 }
 
-/* crates/guillotiere/src/simple/boxes.rt */
-SMALL bool guillotiere_simple_boxes_FreeBoxEntry_is_fork(const guillotiere_FreeBox *self) {
-    return self->is_fork;
-}
-
 /* Shows the entries of a heap with this top and of sizes of a cell to a search, but for those that can't be the best.
  * crates/atlas_search/src/search.rt
  */
@@ -49151,9 +49555,9 @@ SMALL void atlas_search_search_show_within_FreeBox(slice_FreeBox entries, atlas_
 }
 
 /* Whether the left one of two entries comes first: it is there, and the right one isn't, or comes no earlier.
- * crates/atlas_search/src/heap.rt
+ * crates/atlas_search/src/heap/leaving.rt
  */
-SMALL bool atlas_search_heap_is_left_first_FreeBox(slice_FreeBox entries, atlas_search_Link left, atlas_search_Link right) {
+SMALL bool atlas_search_heap_leaving_is_left_first_FreeBox(slice_FreeBox entries, atlas_search_Link left, atlas_search_Link right) {
     uint64_t n_5;
     uint64_t n_6;
     if (left.number == 4294967295u) {
@@ -49167,23 +49571,83 @@ SMALL bool atlas_search_heap_is_left_first_FreeBox(slice_FreeBox entries, atlas_
     return n_5 <= n_6;
 }
 
-/* Hangs an entry, with all below it, to the left below another one. What was there hangs to the right then.
- * crates/atlas_search/src/heap.rt
+/* Two heaps hung below a fork that goes. The top that comes first, the left one if `is_left`, takes its place below `up` and is a fork, and
+ * what hung below that one goes on in the same way.
+ * crates/atlas_search/src/heap/leaving.rt
  */
-SMALL void atlas_search_heap_hang_left_FreeBox(slice_FreeBox_2 entries, atlas_search_Link above, atlas_search_Link less) {
-    atlas_search_Links links_4;
-    links_4 = atlas_search_heap_links_at_FreeBox(new_slice_FreeBox(entries.at, entries.len), above);
-    atlas_search_heap_relink_FreeBox(new_slice_FreeBox_2(entries.at, entries.len), above, links_4.up, less, links_4.left);
-    atlas_search_heap_set_up_FreeBox(new_slice_FreeBox_2(entries.at, entries.len), less, above);
-}
-
-/* What hangs on the right below an entry hangs on the left then, and the other way round.
- * crates/atlas_search/src/heap.rt
- */
-SMALL void atlas_search_heap_swap_below_FreeBox(slice_FreeBox_2 entries, atlas_search_Link above) {
-    atlas_search_Links links_3;
-    links_3 = atlas_search_heap_links_at_FreeBox(new_slice_FreeBox(entries.at, entries.len), above);
-    atlas_search_heap_relink_FreeBox(new_slice_FreeBox_2(entries.at, entries.len), above, links_3.up, links_3.right, links_3.left);
+PART void atlas_search_heap_leaving_lift_FreeBox(slice_FreeBox_2 entries, atlas_search_Link up, atlas_search_Link left,
+        atlas_search_Link right, bool is_left) {
+    atlas_search_Link link_6;
+    atlas_search_Links links_7;
+    bool is_8;
+    atlas_search_Link link_9;
+    atlas_search_Link link_10;
+    atlas_search_Links links_11;
+    bool is_12;
+    atlas_search_Link link_13;
+    bool is_16;
+    bool is_26;
+    atlas_search_Link link_41;
+    bool is_49;
+    bool is_59;
+    atlas_search_Link link_74;
+    if (is_left) {
+        if (right.number == 4294967295u) {
+            is_16 = atlas_search_heap_is_fork_FreeBox(new_slice_FreeBox(entries.at, entries.len), left);
+            if (!is_16) {
+                atlas_search_heap_set_up_FreeBox(new_slice_FreeBox_2(entries.at, entries.len), left, up);
+                return;
+            }
+        }
+        atlas_search_heap_move_below_FreeBox(new_slice_FreeBox_2(entries.at, entries.len), right, left);
+        is_26 = atlas_search_heap_is_fork_FreeBox(new_slice_FreeBox(entries.at, entries.len), left);
+        if (!is_26) {
+            link_6 = atlas_search_heap_close_FreeBox(new_slice_FreeBox_2(entries.at, entries.len), left, left);
+            atlas_search_heap_put_FreeBox(new_slice_FreeBox_2(entries.at, entries.len), left, up, link_6, right, true);
+            return;
+        }
+        links_7 = atlas_search_heap_links_at_FreeBox(new_slice_FreeBox(entries.at, entries.len), left);
+        is_8 = atlas_search_heap_leaving_is_left_first_FreeBox(new_slice_FreeBox(entries.at, entries.len), links_7.left, links_7.right);
+        if (is_8) {
+            link_41 = links_7.left;
+        } else {
+            link_41 = links_7.right;
+        }
+        link_9 = link_41;
+        atlas_search_heap_put_FreeBox(new_slice_FreeBox_2(entries.at, entries.len), left, up, link_9, right, true);
+        if (link_9.number == 4294967295u) {
+            return;
+        }
+        atlas_search_heap_leaving_lift_FreeBox(new_slice_FreeBox_2(entries.at, entries.len), left, links_7.left, links_7.right, is_8);
+    } else {
+        if (left.number == 4294967295u) {
+            is_49 = atlas_search_heap_is_fork_FreeBox(new_slice_FreeBox(entries.at, entries.len), right);
+            if (!is_49) {
+                atlas_search_heap_set_up_FreeBox(new_slice_FreeBox_2(entries.at, entries.len), right, up);
+                return;
+            }
+        }
+        atlas_search_heap_move_below_FreeBox(new_slice_FreeBox_2(entries.at, entries.len), left, right);
+        is_59 = atlas_search_heap_is_fork_FreeBox(new_slice_FreeBox(entries.at, entries.len), right);
+        if (!is_59) {
+            link_10 = atlas_search_heap_close_FreeBox(new_slice_FreeBox_2(entries.at, entries.len), right, right);
+            atlas_search_heap_put_FreeBox(new_slice_FreeBox_2(entries.at, entries.len), right, up, left, link_10, true);
+            return;
+        }
+        links_11 = atlas_search_heap_links_at_FreeBox(new_slice_FreeBox(entries.at, entries.len), right);
+        is_12 = atlas_search_heap_leaving_is_left_first_FreeBox(new_slice_FreeBox(entries.at, entries.len), links_11.left, links_11.right);
+        if (is_12) {
+            link_74 = links_11.left;
+        } else {
+            link_74 = links_11.right;
+        }
+        link_13 = link_74;
+        atlas_search_heap_put_FreeBox(new_slice_FreeBox_2(entries.at, entries.len), right, up, left, link_13, true);
+        if (link_13.number == 4294967295u) {
+            return;
+        }
+        atlas_search_heap_leaving_lift_FreeBox(new_slice_FreeBox_2(entries.at, entries.len), right, links_11.left, links_11.right, is_12);
+    }
 }
 
 /* std_alloc/src/vec/ends.rt */
@@ -51985,23 +52449,15 @@ SMALL atlas_search_Mask atlas_search_masks_Mask_without(atlas_search_Mask self, 
     return new_atlas_search_Mask(self.bits & (uint64_t)~(UINT64_C(1) << (k & 63u)));
 }
 
-/* Hangs an entry, with all below it, to the left below another one. What was there hangs to the right then.
- * crates/atlas_search/src/heap.rt
- */
-SMALL void atlas_search_heap_hang_left_Slot(slice_Slot_2 entries, atlas_search_Link above, atlas_search_Link less) {
-    atlas_search_Links links_4;
-    links_4 = atlas_search_heap_links_at_Slot(new_slice_Slot(entries.at, entries.len), above);
-    atlas_search_heap_relink_Slot(new_slice_Slot_2(entries.at, entries.len), above, links_4.up, less, links_4.left);
-    atlas_search_heap_set_up_Slot(new_slice_Slot_2(entries.at, entries.len), less, above);
-}
-
-/* What hangs on the right below an entry hangs on the left then, and the other way round.
- * crates/atlas_search/src/heap.rt
- */
-SMALL void atlas_search_heap_swap_below_Slot(slice_Slot_2 entries, atlas_search_Link above) {
-    atlas_search_Links links_3;
-    links_3 = atlas_search_heap_links_at_Slot(new_slice_Slot(entries.at, entries.len), above);
-    atlas_search_heap_relink_Slot(new_slice_Slot_2(entries.at, entries.len), above, links_3.up, links_3.right, links_3.left);
+/* core::int::i32::cast_unsigned */
+SMALL uint32_t core_int_i32_cast_unsigned(uint32_t given_1) {
+    uint32_t n_3;
+    if ((int32_t)given_1 < (int32_t)0u) {
+        n_3 = 4294967295u - (uint32_t)~given_1;
+    } else {
+        n_3 = given_1;
+    }
+    return n_3;
 }
 
 /* The rank of a box with this least margin.
@@ -52011,24 +52467,7 @@ SMALL uint32_t atlas_search_best_rank(uint32_t flip, uint32_t margin) {
     if (margin == 0u) {
         return 0u;
     }
-    return margin ^ flip;
-}
-
-/* Whether a box of this rank with this corner is to be kept rather than the best one.
- * crates/atlas_search/src/best.rt
- */
-SMALL bool atlas_search_best_Best_is_beaten_by(const atlas_search_Best *self, uint32_t rank, uint64_t corner) {
-    bool is_4;
-    bool is_6;
-    is_4 = rank < self->rank;
-    if (!is_4) {
-        is_6 = rank == self->rank;
-        if (is_6) {
-            is_6 = corner < self->corner;
-        }
-        is_4 = is_6;
-    }
-    return is_4;
+    return atlas_search_best_rank_above_zero(flip, margin);
 }
 
 /* core/src/ops.rt */

@@ -3,7 +3,7 @@
  *     work NAME COUNT
  *
  * glyph     requests of sides from 8 to 64 in a full atlas of 2048x2048, and where one has no room the freeing of a random box
- * checker   boxes of one pixel, which fill an atlas, freed every second first
+ * column    boxes of one pixel, which fill an atlas, freed every second first
  * tiles     boxes of 32x32 in an atlas of 2048x2048, and once it is full the freeing of a random box before each request
  * cache     insertions of glyphs of 4,000 keys into a cache of two pages of 512x512, in frames of 200, with their changes
  * sheets    sheets of 40 sprites, packed into the smallest square with a second turn of effort */
@@ -49,7 +49,7 @@ static uint32_t full_atlas(uint32_t calls, uint32_t *ids, uint32_t least, uint32
     return status;
 }
 
-static uint32_t checker(uint32_t rows, uint32_t *ids) {
+static uint32_t column(uint32_t rows, uint32_t *ids) {
     guillotiere_atlas atlas = GUILLOTIERE_NONE;
     guillotiere_allocation granted;
     uint32_t i, first, status = guillotiere_atlas_new(1, (int32_t)rows, &atlas);
@@ -114,7 +114,7 @@ int main(int words, char **word) {
     uint32_t *ids = count ? malloc((count + 1u) * sizeof *ids) : NULL;
     if (ids == NULL) return 2;
     if (strcmp(word[1], "glyph") == 0) status = full_atlas(count, ids, 8, 64);
-    else if (strcmp(word[1], "checker") == 0) status = checker(count, ids);
+    else if (strcmp(word[1], "column") == 0) status = column(count, ids);
     else if (strcmp(word[1], "tiles") == 0) status = full_atlas(count, ids, 32, 32);
     else if (strcmp(word[1], "cache") == 0) status = cache_of_glyphs(count);
     else if (strcmp(word[1], "sheets") == 0) status = sheets(count);

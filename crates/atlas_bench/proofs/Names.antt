@@ -4,7 +4,7 @@ use Rattle.atlas_words.specs.Words.{BeginsWithWord}
 use Rattle.atlas_words.proofs.Keywords.{has_no_space, no_space_by_test}
 use Rattle.atlas_words.proofs.PartedWords.{one_word}
 use Rattle.atlas_bench.specs.declared.workload.Workload.{Workload}
-use Rattle.atlas_bench.specs.declared.workload.Workload.TheVariants.{Glyph, Record, Sprite, SortedSprite, Checker}
+use Rattle.atlas_bench.specs.declared.workload.Workload.TheVariants.{Glyph, Record, Sprite, SortedSprite, Column}
 use Rattle.atlas_bench.specs.declared.workload.Workload.TheVariants.{Search, Growth, Rearrange, Glyph1024, Glyph4096}
 use Rattle.atlas_bench.specs.declared.workload.Workload.TheVariants.{Glyph8192, Glyph16384, Mixed4096, Tiles, Sheet}
 use Rattle.atlas_bench.specs.declared.workload.Workload.TheVariants.{Sheet16384, Cache}
@@ -16,7 +16,7 @@ name_test Glyph = refl
 name_test Record = refl
 name_test Sprite = refl
 name_test SortedSprite = refl
-name_test Checker = refl
+name_test Column = refl
 name_test Search = refl
 name_test Growth = refl
 name_test Rearrange = refl

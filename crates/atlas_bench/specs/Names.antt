@@ -1,7 +1,7 @@
 -- The workloads: their names and their greatest sizes.
 use Rattle.std.specs.Prelude.{ℕ, List, codes}
 use Rattle.atlas_bench.specs.declared.workload.Workload.{Workload}
-use Rattle.atlas_bench.specs.declared.workload.Workload.TheVariants.{Glyph, Record, Sprite, SortedSprite, Checker}
+use Rattle.atlas_bench.specs.declared.workload.Workload.TheVariants.{Glyph, Record, Sprite, SortedSprite, Column}
 use Rattle.atlas_bench.specs.declared.workload.Workload.TheVariants.{Search, Growth, Rearrange, Glyph1024, Glyph4096}
 use Rattle.atlas_bench.specs.declared.workload.Workload.TheVariants.{Glyph8192, Glyph16384, Mixed4096, Tiles, Sheet}
 use Rattle.atlas_bench.specs.declared.workload.Workload.TheVariants.{Sheet16384, Cache}
@@ -12,7 +12,7 @@ name Glyph = codes "glyph"
 name Record = codes "record"
 name Sprite = codes "sprite"
 name SortedSprite = codes "sprite-sorted"
-name Checker = codes "checker"
+name Column = codes "column"
 name Search = codes "search"
 name Growth = codes "growth"
 name Rearrange = codes "rearrange"
@@ -32,7 +32,7 @@ most_size Glyph = 1000000000
 most_size Record = 10000000
 most_size Sprite = 1000000
 most_size SortedSprite = 1000000
-most_size Checker = 8000000
+most_size Column = 8000000
 most_size Search = 1000000000
 most_size Growth = 32768
 most_size Rearrange = 1000000000

@@ -3,7 +3,7 @@ use Rattle.std.specs.Prelude.{◌≡◌, ℕ, ◌+◌, ◌*◌, ◌^◌, ◌<◌
 use Rattle.guillotiere.specs.declared.Size.{Size}
 use Rattle.atlas_bench.specs.SplitMix.{next_state, number_below, size_between}
 use Rattle.atlas_bench.specs.declared.workload.Workload.{Workload}
-use Rattle.atlas_bench.specs.declared.workload.Workload.TheVariants.{Glyph, Record, Sprite, SortedSprite, Checker}
+use Rattle.atlas_bench.specs.declared.workload.Workload.TheVariants.{Glyph, Record, Sprite, SortedSprite, Column}
 use Rattle.atlas_bench.specs.declared.workload.Workload.TheVariants.{Search, Growth, Rearrange, Glyph1024, Glyph4096}
 use Rattle.atlas_bench.specs.declared.workload.Workload.TheVariants.{Glyph8192, Glyph16384, Mixed4096, Tiles, Sheet}
 use Rattle.atlas_bench.specs.declared.workload.Workload.TheVariants.{Sheet16384, Cache}
@@ -17,7 +17,7 @@ Makes Glyph size calls = calls ≡ size
 Makes Record size calls = calls ≡ size
 Makes Sprite size calls = calls ≡ size
 Makes SortedSprite size calls = calls ≡ size
-Makes Checker size calls = calls ≡ 2 * size
+Makes Column size calls = calls ≡ 2 * size
 Makes Search size calls = calls ≡ 600000 + size
 Makes Growth size calls = calls < 2 ^ 32
 Makes Rearrange size calls = (5000 + size ≤ calls) × (calls ≤ 7500 + size)

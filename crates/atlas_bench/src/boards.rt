@@ -83,8 +83,8 @@ pub fn free_others(
     Ok(())
 }
 
-/// Fills a board of so many rows, frees the first square and every other one, and then the others.
-pub fn checker(alloc: Global, rows: u32) -> Result<Answers, BenchError>
+/// Fills an atlas 1 pixel wide and so many high, frees the first box and every other one, and then the others.
+pub fn column(alloc: Global, rows: u32) -> Result<Answers, BenchError>
     requires least { 1 ≤ rows }
     requires most { rows < 2 ^ 31 }
     ensures { IfOk result (λ it. it.calls ≡ 2 * rows) }
@@ -101,7 +101,7 @@ pub fn checker(alloc: Global, rows: u32) -> Result<Answers, BenchError>
 // The rows of the board that `search` goes over.
 const SEARCHED_ROWS: u32 = 400_000;
 
-/// Fills a board of 400,000 rows, frees every other square, and searches it in vain so many times.
+/// Fills an atlas 1 pixel wide and 400,000 high, frees every other box, and searches it in vain so many times.
 pub fn search(alloc: Global, searches: u32) -> Result<Answers, BenchError>
     ensures { IfOk result (λ it. it.calls ≡ 600000 + searches) }
 {

@@ -5,7 +5,7 @@ ghost use Rattle.atlas_bench.specs.Workloads.{Makes};
 ghost use Rattle.atlas_bench.specs.Jobs.{SpellsJobs};
 
 use crate::answers::Answers;
-use crate::boards::{checker, search};
+use crate::boards::{column, search};
 use crate::caches::{cache, tiles};
 use crate::error::BenchError;
 use crate::growth::growth;
@@ -29,7 +29,7 @@ fn run_job(alloc: Global, job: Job) -> Result<Answers, BenchError>
         Workload::Record => recorded(alloc, job.size),
         Workload::Sprite => sprite(alloc, job.size),
         Workload::SortedSprite => sorted_sprite(alloc, job.size),
-        Workload::Checker => checker(alloc, job.size),
+        Workload::Column => column(alloc, job.size),
         Workload::Search => search(alloc, job.size),
         Workload::Growth => growth(alloc, job.size),
         Workload::Rearrange => rearrange(alloc, job.size),

@@ -13,8 +13,8 @@ pub enum Workload {
     Sprite,
     /// `sprite-sorted`: the same sprites, sorted.
     SortedSprite,
-    /// `checker`: a board that is filled and freed; the size is the number of its rows.
-    Checker,
+    /// `column`: an atlas 1 pixel wide that is filled and freed; the size is the number of its rows.
+    Column,
     /// `search`: searches in vain over a board; the size is their number.
     Search,
     /// `growth`: an atlas that grows; the size is the side, in pixels, up to which both of its sides grow.
@@ -69,7 +69,7 @@ impl Workload {
             b"glyph" => Some(Workload::Glyph),
             b"record" => Some(Workload::Record),
             b"sprite" => Some(Workload::Sprite),
-            b"checker" => Some(Workload::Checker),
+            b"column" => Some(Workload::Column),
             b"search" => Some(Workload::Search),
             b"growth" => Some(Workload::Growth),
             b"rearrange" => Some(Workload::Rearrange),
@@ -93,7 +93,7 @@ impl Workload {
             Workload::Record => "record",
             Workload::Sprite => "sprite",
             Workload::SortedSprite => "sprite-sorted",
-            Workload::Checker => "checker",
+            Workload::Column => "column",
             Workload::Search => "search",
             Workload::Growth => "growth",
             Workload::Rearrange => "rearrange",
@@ -127,7 +127,7 @@ impl Workload {
             Workload::Record => 10_000_000,
             Workload::Sprite | Workload::SortedSprite | Workload::Sheet | Workload::Sheet16384 =>
                 1_000_000,
-            Workload::Checker => 8_000_000,
+            Workload::Column => 8_000_000,
             Workload::Growth => 32_768,
         }
     }

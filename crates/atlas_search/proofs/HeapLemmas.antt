@@ -9,6 +9,8 @@ pub mod Alone
 pub mod Joining
 pub mod Forking
 pub mod Sorting
+pub mod Passing
+pub mod Sinking
 pub mod Leaving
 pub mod Pushing
 pub mod Removing

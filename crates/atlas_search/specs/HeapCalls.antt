@@ -129,9 +129,19 @@ pub record IsForked (es fs : List Item) (c : Cell) (top at : ℕ) (h : Heap) : T
   pub left : Heap
   pub right : Heap
   pub fork : (item_at fs top).is_fork ≡ true
+  pub up : (item_at fs top).up ≡ (item_at es top).up
   pub can : CanSort fs c top at (Top top left right)
   pub has : (k : ℕ) → occurs k (members (Top top left right)) ≡ occurs k (members h)
   pub others : (k : ℕ) → occurs k (members h) ≡ 0 → item_at fs k ≡ item_at es k
+
+-- These heaps, with tops x and y, hung below the fork `at`, whose links may be others by now; all have exact rectangles.
+pub record AreHeapsOf (es : List Item) (at x y : ℕ) (left right : Heap) : Type 0 where
+  pub short : length es ≤ no_slot
+  pub fork : (item_at es at).is_fork ≡ true
+  pub low : IsHeap es at x left
+  pub high : IsHeap es at y right
+  pub once : (k : ℕ) → same k at + (occurs k (members left) + occurs k (members right)) ≤ 1
+  pub exact : (k : ℕ) → 0 < occurs k (members left) + occurs k (members right) → IsSolid (item_at es k).area
 
 -- What hung below entry `at` is a heap, which hangs below `up`; all other entries keep their links.
 pub record HasLeft (es fs : List Item) (up top at : ℕ) (left right : Heap) : Type 0 where

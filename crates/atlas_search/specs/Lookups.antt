@@ -8,7 +8,7 @@ use Rattle.atlas_search.specs.declared.best.Found.{Found}
 use Rattle.atlas_search.specs.declared.link.Link.{Link}
 use Rattle.atlas_search.specs.declared.masks.Mask.{Mask}
 use Rattle.atlas_search.specs.Bands.{band_of, list_of, start_of}
-use Rattle.atlas_search.specs.Bests.{HasSeen}
+use Rattle.atlas_search.specs.Bests.{HasSeen, IsFarther}
 use Rattle.atlas_search.specs.Forks.{IsListed}
 use Rattle.atlas_model.specs.Boxes.{Sides, Box, box_sides, Fits}
 use Rattle.atlas_model.specs.Choice.{Options, AreValid, class_of}
@@ -20,11 +20,18 @@ use Rattle.atlas_model.specs.Pixels.{box_of}
 use Rattle.atlas_search.specs.Searches.{Shown, shown_at, IsBestShown}
 use Rattle.atlas_search.specs.Tables.{head_of, is_used_at}
 
--- A search was shown these entries, or they can't be the best.
+-- A search for a request of this rounded size was shown these entries, or they can't be the best.
+abbrev pub HasShownTo : (es : List Item) (r : Sides) (xs : List ℕ) (before after : Best) → Type 0
+HasShownTo es r xs before after =
+    (is_large : Bool) (shown : List Shown) → HasSeen before is_large r shown → HasSeen after is_large r (shown ++ shown_items es xs)
+
+-- The same of any search.
 abbrev pub HasShown : (es : List Item) (xs : List ℕ) (before after : Best) → Type 0
-HasShown es xs before after =
-    (is_large : Bool) (r : Sides) (shown : List Shown) → HasSeen before is_large r shown
-    → HasSeen after is_large r (shown ++ shown_items es xs)
+HasShown es xs before after = (r : Sides) → HasShownTo es r xs before after
+
+-- These entries are longer than a request, both sides.
+abbrev pub AreLarger : (es : List Item) (r : Sides) (xs : List ℕ) → Type 0
+AreLarger es r xs = (i : ℕ) → 0 < occurs i xs → IsFarther r (item_sides (item_at es i))
 
 -- Each free entry stands once in the list of its sides, and nothing else stands in a list; its rectangle is exact.
 pub record AreListed (o : Options) (heads : List Link) (es : List Item) : Type 0 where
@@ -50,6 +57,10 @@ AreBelow end row column = (row < end) × (column < end)
 abbrev pub IsItemBelow : Options → List Item → (end i : ℕ) → Type 0
 IsItemBelow o es end i =
     AreBelow end (band_of o (item_sides (item_at es i)).width) (band_of o (item_sides (item_at es i)).height)
+
+-- A row and a column both come after the bands of a request's sides.
+abbrev pub AreAfter : Options → (r : Sides) → (row column : ℕ) → Type 0
+AreAfter o r row column = (band_of o r.width < row) × (band_of o r.height < column)
 
 -- The free entries in these rows and columns, which come before `end`, were shown to a search, or can't be the best.
 pub record HasAdded (o : Options) (es : List Item) (end : ℕ) (r : Sides) (IsVisited : ℕ → ℕ → Type 0)

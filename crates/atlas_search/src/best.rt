@@ -1,6 +1,7 @@
 //! The best free box that a search was shown.
 ghost use Rattle.std.specs.Prelude.{◌≡◌, ◌≢◌, ◌<◌, ◌≤◌, ◌++◌, ◌∷◌, [], ℕ, Bool, List, pos};
 ghost use Rattle.std.specs.Prelude.{◌+◌, ◌<ℤ◌, ◌≤ℤ◌, ◌↔◌, IsTrue, IfSome, None, Contains, false, true};
+ghost use Rattle.std.specs.Int.{cast_unsigned, w32};
 ghost use Rattle.atlas_model.specs.Boxes.{Box, IsNonempty, IsPositive, Sides, box_sides};
 ghost use Rattle.atlas_model.specs.Choice.{ComesFirst};
 ghost use Rattle.atlas_model.specs.Pixels.{box_of, natural, sides_of};
@@ -60,6 +61,7 @@ pub struct Best {
     ghost flipped: { flip ≡ flip_of is_large },
     ghost barred: { bar < 18446744073709551615 → (rank ≡ 0) × (bar ≡ corner) },
     ghost reached: { reach < 4294967295 → IsReach reach rank is_large },
+    ghost ranked: { rank ≤ 2147483647 },
 }
 
 // By exclusive or with this a margin above 0 is its rank: of a large request the greater the lesser.
@@ -67,6 +69,14 @@ fn flip_of(is_large: bool) -> u32
     ensures { result ≡ flip_of is_large }
 {
     if is_large { NO_RANK } else { 0 }
+}
+
+// The rank of a box with this least margin, if that is above 0.
+fn rank_above_zero(flip: u32, margin: i32) -> u32
+    ensures rank { (is_large : Bool) → flip ≡ flip_of is_large → pos 0 <ℤ margin → result ≡ rank_of is_large (natural margin) }
+    ensures same { flip ≡ 0 → result ≡ cast_unsigned w32 margin }
+{
+    margin.cast_unsigned() ^ flip
 }
 
 // The rank of a box with this least margin.
@@ -77,7 +87,7 @@ fn rank(flip: u32, margin: i32) -> u32
     if margin == 0 {
         return 0;
     }
-    margin as u32 ^ flip
+    rank_above_zero(flip, margin)
 }
 
 // How great the least margin of a box may be that is better than the best of this rank. For a large request that doesn't end, unless there
@@ -142,6 +152,7 @@ impl Best {
         requires corner { corner ≡ corner_of (box_of rectangle) }
         ensures passed { result ≡ None → IsPassed self.now (box_of rectangle) }
         ensures taken { IfSome result (λ rank. BecomesBest self.now (box_of rectangle) rank corner) }
+        ensures ranked { IfSome result (λ rank. rank ≤ 2147483647) }
     {
         let margin = margin_in(rectangle, self.size);
         if margin < 0 {
@@ -181,6 +192,31 @@ impl Best {
         false
     }
 
+    /// Shows the box of an entry, which has this corner and is longer on both sides than the request.
+    #[inline(always)]
+    pub fn look_larger(&mut self, rectangle: Rectangle, corner: u64, at: Link)
+        requires unsigned { IsUnsigned rectangle }
+        requires nonempty { IsNonempty (box_of rectangle) }
+        requires corner { corner ≡ corner_of (box_of rectangle) }
+        ensures { (is_large : Bool) (r : Sides) (shown : List Shown) → IsFarther r (box_sides (box_of rectangle))
+            → HasSeen self.old is_large r shown
+            → HasSeen self.new is_large r (shown ++ shown_at (box_of rectangle) at.number ∷ []) }
+    {
+        let rank = rank_above_zero(self.flip, margin_in(rectangle, self.size));
+        if self.is_beaten_by(rank, corner) {
+            *self = Best {
+                size: self.size,
+                is_large: self.is_large,
+                flip: self.flip,
+                rank,
+                corner,
+                bar: NO_CORNER,
+                reach: if self.is_large { NO_REACH } else { rank },
+                at,
+            };
+        }
+    }
+
     /// Whether the best has an equal side.
     pub fn has_equal_side(&self) -> bool
         ensures { IsTrue result ↔ (self.now.rank ≡ 0) }
@@ -195,6 +231,18 @@ impl Best {
         ensures { IsTrue result → (self.now.rank ≡ 0) × (self.now.corner ≤ corner) }
     {
         self.bar <= corner
+    }
+
+    /// Whether the best leaves over 1 or nothing and begins at this corner or before it: of boxes that are longer on both sides than the
+    /// request, none that begins there or later is better.
+    #[inline(always)]
+    pub fn passes_larger(&self, corner: u64) -> bool
+        ensures { result ≡ true → (is_large : Bool) (r : Sides) (shown more : List Shown) (b : Box)
+            → corner ≡ corner_of b → b.min.x < 4294967296 → HasSeen self.now is_large r shown
+            → ((c : Shown) → Contains more c → IsFarther r (box_sides c.box) × ComesFirst b c.box)
+            → HasSeen self.now is_large r (shown ++ more) }
+    {
+        self.reach <= 1 && self.corner <= corner
     }
 
     /// Whether the request may fit a box of a size in this cell: both of its sides are before the ends.

@@ -12,6 +12,7 @@ ghost use Rattle.atlas_search.specs.Items.{forked, item_at, item_box, item_sides
 ghost use Rattle.atlas_search.specs.Numbers.{no_slot, occurs};
 ghost use Rattle.atlas_search.specs.Ranks.{corner_of};
 ghost use Rattle.atlas_search.specs.Rectangles.{IsSolid, IsUnsigned};
+ghost use Rattle.atlas_search.specs.Showing.{cell_with};
 
 use crate::best::corner;
 use crate::cells::Cell;
@@ -19,6 +20,11 @@ use crate::cut::exact_size;
 use crate::link::{Link, NO_SLOT};
 use crate::search::Entry;
 use atlas_model::Size;
+use leaving::leave;
+use sorting::{is_fork_before, sort_below, sort_in};
+
+mod leaving;
+mod sorting;
 
 /// An entry whose links can be written.
 pub trait Linked: Entry {
@@ -268,97 +274,6 @@ fn close<E: Linked>(entries: &mut [E], at: Link, up: Link) -> Link
     meld(entries, links.left, links.right, up)
 }
 
-// The top of a heap becomes a fork, if it is none: what hangs below it, melded, hangs in the half of its own size.
-#[inline(always)]
-fn make_fork<E: Linked>(entries: &mut [E], cell: Cell, top: Link)
-    requires some { top.number ≢ no_slot }
-    requires split { IsSplit cell }
-    requires sorted { (at : ℕ) × (h : Heap) × CanSort (map E.item entries.old) cell top.number at h }
-    ensures forked { (at : ℕ) (h : Heap) → CanSort (map E.item entries.old) cell top.number at h
-        → IsForked (map E.item entries.old) (map E.item entries.new) cell top.number at h }
-    ensures areas { KeepsAreas (map E.item entries.old) (map E.item entries.new) }
-    ensures bare { map E.bare entries.new ≡ map E.bare entries.old }
-{
-    if is_fork(entries, top) {
-        return;
-    }
-    let none = Link::NONE;
-    let up = links_at(entries, top).up;
-    let size = size_at(entries, top);
-    let rest = close(entries, top, top);
-    if cell.halves().low.is_below_ends(size) {
-        put(entries, top, up, rest, none, true);
-    } else {
-        put(entries, top, up, none, rest, true);
-    }
-}
-
-// Two entries, of which the second doesn't come first.
-#[derive(Clone, Copy)]
-struct Pair {
-    first: Link,
-    rest: Link,
-}
-
-// These two, in order.
-#[inline(always)]
-fn in_order<E: Entry>(entries: &[E], one: Link, other: Link) -> Pair
-    requires one { one.number < length entries.now }
-    requires other { other.number < length entries.now }
-    requires one_solid { IsSolid (item_at (map E.item entries.now) one.number).area }
-    requires other_solid { IsSolid (item_at (map E.item entries.now) other.number).area }
-    ensures order { ComesFirst (item_box (item_at (map E.item entries.now) result.first.number))
-        (item_box (item_at (map E.item entries.now) result.rest.number)) }
-    ensures two { ((result.first.number ≡ one.number) × (result.rest.number ≡ other.number))
-        ⊎ ((result.first.number ≡ other.number) × (result.rest.number ≡ one.number)) }
-{
-    if corner_at(entries, other) < corner_at(entries, one) {
-        Pair {
-            first: other,
-            rest: one,
-        }
-    } else {
-        Pair {
-            first: one,
-            rest: other,
-        }
-    }
-}
-
-// An entry joins a heap by its size. Answers the top, which hangs below `up`.
-fn sort_in<E: Linked>(entries: &mut [E], cell: Cell, up: Link, top: Link, at: Link) -> Link
-    requires { (h : Heap) × CanSort (map E.item entries.old) cell top.number at.number h }
-    ensures sorted { (h : Heap) → CanSort (map E.item entries.old) cell top.number at.number h
-        → HasSorted (map E.item entries.old) (map E.item entries.new) cell up.number result.number at.number h }
-    ensures areas { KeepsAreas (map E.item entries.old) (map E.item entries.new) }
-    ensures bare { map E.bare entries.new ≡ map E.bare entries.old }
-{
-    let none = Link::NONE;
-    if top.number == NO_SLOT {
-        put(entries, at, up, none, none, false);
-        return at;
-    }
-    if is_alike(entries, top, at) {
-        let under = links_at(entries, top).up;
-        put(entries, at, under, none, none, false);
-        return meld(entries, top, at, up);
-    }
-    make_fork(entries, cell, top);
-    let links = links_at(entries, top);
-    let Pair { first, rest } = in_order(entries, top, at);
-    let halves = cell.halves();
-    if halves.low.is_below_ends(size_at(entries, rest)) {
-        let left = sort_in(entries, halves.low, first, links.left, rest);
-        move_below(entries, links.right, first);
-        put(entries, first, up, left, links.right, true);
-    } else {
-        let right = sort_in(entries, halves.high, first, links.right, rest);
-        move_below(entries, links.left, first);
-        put(entries, first, up, links.left, right, true);
-    }
-    first
-}
-
 // Whether an entry, if there is one, has nothing on its left, comes before another one, and is alike.
 #[inline(always)]
 fn is_place<E: Entry>(entries: &[E], near: Link, at: Link) -> bool
@@ -393,71 +308,35 @@ pub fn push<E: Linked>(entries: &mut [E], tag: Link, top: Link, near: Link, at: 
     ensures bare { map E.bare entries.new ≡ map E.bare entries.old }
 {
     let none = Link::NONE;
-    if top.number != NO_SLOT && is_place(entries, near, at) {
+    let size = size_at(entries, at);
+    if top.number == NO_SLOT {
+        put(entries, at, tag, none, none, false);
+        return at;
+    }
+    if is_place(entries, near, at) {
         put(entries, at, near, none, none, false);
         let links = links_at(entries, near);
         relink(entries, near, links.up, at, links.right);
         return top;
     }
-    let cell = Cell::around(size_at(entries, at));
+    if is_alike(entries, top, at) {
+        put(entries, at, tag, none, none, false);
+        return meld(entries, top, at, tag);
+    }
+    let cell = Cell::around(size);
+    if is_fork_before(entries, top, at) {
+        sort_below(
+            entries,
+            top,
+            at,
+            cell.left,
+            cell.right,
+            cell.top,
+            cell.bottom,
+        );
+        return top;
+    }
     sort_in(entries, cell, tag, top, at)
-}
-
-// Whether the left one of two entries comes first: it is there, and the right one isn't, or comes no earlier.
-#[inline(always)]
-fn is_left_first<E: Entry>(entries: &[E], left: Link, right: Link) -> bool
-    requires left { left.number ≢ no_slot → left.number < length entries.now }
-    requires right { right.number ≢ no_slot → right.number < length entries.now }
-    requires left_solid { left.number ≢ no_slot → IsSolid (item_at (map E.item entries.now) left.number).area }
-    requires right_solid { right.number ≢ no_slot → IsSolid (item_at (map E.item entries.now) right.number).area }
-    ensures some { result ≡ true → left.number ≢ no_slot }
-    ensures left { result ≡ true → right.number ≢ no_slot → ComesFirst
-        (item_box (item_at (map E.item entries.now) left.number)) (item_box (item_at (map E.item entries.now) right.number)) }
-    ensures right { result ≡ false → left.number ≢ no_slot → (right.number ≢ no_slot) × ComesFirst
-        (item_box (item_at (map E.item entries.now) right.number)) (item_box (item_at (map E.item entries.now) left.number)) }
-{
-    if left.number == NO_SLOT {
-        return false;
-    }
-    if right.number == NO_SLOT {
-        return true;
-    }
-    corner_at(entries, left) <= corner_at(entries, right)
-}
-
-// What hangs below an entry becomes one heap, which hangs below `up`. Of a fork's two sides the top that comes first comes up.
-fn leave<E: Linked>(entries: &mut [E], at: Link, up: Link) -> Link
-    requires { (left : Heap) × (right : Heap) × ArePartsBelow (map E.item entries.old) at.number left right }
-    ensures left { (left right : Heap) → ArePartsBelow (map E.item entries.old) at.number left right
-        → HasLeft (map E.item entries.old) (map E.item entries.new) up.number result.number at.number left right }
-    ensures areas { KeepsAreas (map E.item entries.old) (map E.item entries.new) }
-    ensures bare { map E.bare entries.new ≡ map E.bare entries.old }
-{
-    if !is_fork(entries, at) {
-        return close(entries, at, up);
-    }
-    let links = links_at(entries, at);
-    if is_left_first(entries, links.left, links.right) {
-        if links.right.number == NO_SLOT && !is_fork(entries, links.left) {
-            set_up(entries, links.left, up);
-            return links.left;
-        }
-        let rest = leave(entries, links.left, links.left);
-        move_below(entries, links.right, links.left);
-        put(entries, links.left, up, rest, links.right, true);
-        return links.left;
-    }
-    if links.right.number == NO_SLOT {
-        return links.right;
-    }
-    if links.left.number == NO_SLOT && !is_fork(entries, links.right) {
-        set_up(entries, links.right, up);
-        return links.right;
-    }
-    let rest = leave(entries, links.right, links.right);
-    move_below(entries, links.left, links.right);
-    put(entries, links.right, up, links.left, rest, true);
-    links.right
 }
 
 /// An entry leaves its heap. Answers the top of what was below it, which took its place. A tag above the heap's top isn't

@@ -8,8 +8,8 @@ ghost use Rattle.atlas_search.specs.Forks.{IsRouted};
 ghost use Rattle.atlas_search.specs.Heaps.{Heap, IsHeap, members};
 ghost use Rattle.atlas_search.specs.Heaps.Heap.{Top};
 ghost use Rattle.atlas_search.specs.Items.{Item, item_at, shown_items};
-ghost use Rattle.atlas_search.specs.Lookups.{AreBelow, AreFreeItems, AreListed, AreNear, AreNoneApart, HasAdded};
-ghost use Rattle.atlas_search.specs.Lookups.{HasSearched, HasShown, IsBeyond, IsInColumn, IsInRow, IsSearch};
+ghost use Rattle.atlas_search.specs.Lookups.{AreAfter, AreBelow, AreFreeItems, AreLarger, AreListed, AreNear, AreNoneApart};
+ghost use Rattle.atlas_search.specs.Lookups.{HasAdded, HasSearched, HasShown, HasShownTo, IsBeyond, IsInColumn, IsInRow, IsSearch};
 ghost use Rattle.atlas_search.specs.Lookups.{IsStanding};
 ghost use Rattle.atlas_search.specs.Masks.{IsMarked, has};
 ghost use Rattle.atlas_search.specs.Numbers.{no_slot};
@@ -149,9 +149,9 @@ fn show_within<E: Entry>(entries: &[E], at: Link, cell: Cell, best: &mut Best)
     }
 }
 
-// Shows a list that begins with this to a search. Where it is of larger sizes alone, it may be enough to look at its first entry.
+// Shows a list that begins with this to a search.
 #[inline(always)]
-fn show_list<E: Entry>(entries: &[E], top: Link, is_larger: bool, best: &mut Best)
+fn show_list<E: Entry>(entries: &[E], top: Link, best: &mut Best)
     requires { (h : Heap) × IsListShowable (map E.item entries.now) top.number h }
     ensures { (h : Heap) → IsListShowable (map E.item entries.now) top.number h
         → HasShown (map E.item entries.now) (members h) best.old best.new }
@@ -161,9 +161,32 @@ fn show_list<E: Entry>(entries: &[E], top: Link, is_larger: bool, best: &mut Bes
     }
     let entry = &entries[top.number as usize];
     if show_entry(entry, top, best) {
-        let area = entry.rectangle();
+        let cell = Cell::around(exact_size(entry.rectangle()));
+        show_halves(entries, entry, cell, best);
+    }
+}
+
+// Shows a list of sizes that are larger than the request's, both sides, to a search. It may be enough to look at its first entry.
+#[inline(always)]
+fn show_larger<E: Entry>(entries: &[E], top: Link, best: &mut Best)
+    requires { (h : Heap) × IsListShowable (map E.item entries.now) top.number h }
+    ensures { (h : Heap) (r : Sides) → IsListShowable (map E.item entries.now) top.number h
+        → AreLarger (map E.item entries.now) r (members h)
+        → HasShownTo (map E.item entries.now) r (members h) best.old best.new }
+{
+    if top.number as usize >= entries.len() {
+        return;
+    }
+    let entry = &entries[top.number as usize];
+    let area = entry.rectangle();
+    let corner = corner(area);
+    if best.passes_larger(corner) {
+        return;
+    }
+    best.look_larger(area, corner, top);
+    if entry.is_fork() {
         let cell = Cell::around(exact_size(area));
-        if is_larger && best.ends_in(cell, corner(area)) {
+        if best.ends_in(cell, corner) {
             return;
         }
         show_halves(entries, entry, cell, best);
@@ -176,7 +199,6 @@ fn search_list<A: Allocator, E: Entry>(
     entries: &[E],
     table: &Table<A>,
     place: Place,
-    is_larger: bool,
     best: &mut Best,
 )
     requires grown { table.now.is_grown ≡ true }
@@ -187,7 +209,7 @@ fn search_list<A: Allocator, E: Entry>(
         → AreBelow end place.row place.column
         → HasAdded o (map E.item entries.now) end r (λ i j. (i ≡ place.row) × (j ≡ place.column)) best.old best.new }
 {
-    show_list(entries, table.stored_head(place), is_larger, best);
+    show_list(entries, table.stored_head(place), best);
 }
 
 // Shows lists of a row to a search.
@@ -197,7 +219,6 @@ fn search_row<A: Allocator, E: Entry>(
     table: &Table<A>,
     row: usize,
     columns: Mask,
-    is_larger: bool,
     best: &mut Best,
 )
     requires grown { table.now.is_grown ≡ true }
@@ -210,7 +231,31 @@ fn search_row<A: Allocator, E: Entry>(
 {
     let mut left = columns;
     while let Some(column) = left.take_first() {
-        search_list(entries, table, Place { row, column }, is_larger, best);
+        search_list(entries, table, Place { row, column }, best);
+    }
+}
+
+// Shows lists of a row that lie to the right of a request's own and below it to a search.
+#[inline(always)]
+fn search_larger<A: Allocator, E: Entry>(
+    entries: &[E],
+    table: &Table<A>,
+    row: usize,
+    columns: Mask,
+    best: &mut Best,
+)
+    requires grown { table.now.is_grown ≡ true }
+    requires row { row < BANDS }
+    requires columns { (j : ℕ) → IsMarked columns j → j < BANDS }
+    requires listed { (o : Options) × AreListed o table.now.heads (map E.item entries.now) }
+    ensures { (o : Options) (end : ℕ) (r : Sides) → AreListed o table.now.heads (map E.item entries.now)
+        → ((j : ℕ) → IsMarked columns j → AreBelow end row j)
+        → ((j : ℕ) → IsMarked columns j → AreAfter o r row j)
+        → HasAdded o (map E.item entries.now) end r (IsInRow row columns) best.old best.new }
+{
+    let mut left = columns;
+    while let Some(column) = left.take_first() {
+        show_larger(entries, table.stored_head(Place { row, column }), best);
     }
 }
 
@@ -233,7 +278,7 @@ fn search_column<A: Allocator, E: Entry>(
 {
     let mut left = rows;
     while let Some(row) = left.take_first() {
-        search_list(entries, table, Place { row, column }, false, best);
+        search_list(entries, table, Place { row, column }, best);
     }
 }
 
@@ -283,14 +328,14 @@ fn search_rows<A: Allocator, E: Entry>(
     requires first { first ≤ BANDS }
     requires end { end ≤ BANDS }
     requires listed { AreListed (options_of options.now) table.now.heads (map E.item entries.now) }
-    ensures { (r : Sides) → HasAdded (options_of options.now) (map E.item entries.now) end r (IsBeyond rows first end)
-        best.old best.new }
+    ensures { (r : Sides) → ((i : ℕ) → IsMarked rows i → AreAfter (options_of options.now) r i first)
+        → HasAdded (options_of options.now) (map E.item entries.now) end r (IsBeyond rows first end) best.old best.new }
 {
     let mut left = rows;
     while let Some(row) = left.take_first() {
         let columns = table.row(row).from(first).below(end);
         let near = columns_near(options, row, columns, best);
-        search_row(entries, table, row, near, true, best);
+        search_larger(entries, table, row, near, best);
     }
 }
 
@@ -338,7 +383,7 @@ fn search_before<A: Allocator, E: Entry>(
         → HasSearched (options_of options.now) (map E.item entries.now) end r best.new }
     ensures last { result ≡ true → AreNoneApart table.now.heads own }
 {
-    search_row(entries, table, own.row, columns.below(end), false, best);
+    search_row(entries, table, own.row, columns.below(end), best);
     search_column(entries, table, own.column, rows.below(end), best);
     if best.has_equal_side() {
         return false;
@@ -363,7 +408,7 @@ fn search_few<A: Allocator, E: Entry>(entries: &[E], table: &Table<A>, end: usiz
         let row = list / BANDS;
         let column = list % BANDS;
         if row.max(column) < end {
-            show_list(entries, table.head(Place { row, column }), false, best);
+            show_list(entries, table.head(Place { row, column }), best);
         }
     }
 }

@@ -320,7 +320,7 @@ def test_can_be_read(page):
     names = page.run('return performance.getEntriesByType("resource").map((each) => each.name.split("/").at(-1))')
     assert names == ['wollemigo.wasm'], names
     plain, packed = page.measure([page.address + 'how.html', page.address + 'wollemigo.wasm'])
-    assert plain < 255700 and packed < 101400, (plain, packed)
+    assert plain < 262800 and packed < 104200, (plain, packed)
     for colour in ('dark', 'light'):
         if page.run('return document.documentElement.dataset.theme') != colour:
             page.click('#theme')

@@ -115,7 +115,7 @@ def test_size(page):
     names = [name for name in names if name.startswith('http')]
     plain, packed = page.measure([page.address] + names)
     assert [name.split('/')[-1] for name in names] == ['wollemigo.wasm'], names
-    assert plain < 255700 and packed < 101400, (plain, packed)
+    assert plain < 262800 and packed < 104200, (plain, packed)
     page.notes.append('%s loads two files: %d bytes, %d packed by gzip' % (page.browser.name, plain, packed))
 
 

@@ -49,6 +49,7 @@ fork-is es c top at h some isf can =
       left = t.0;
       right = t.1;
       fork = isf;
+      up = refl;
       can = t.3;
       has = λ k. sym (ap (λ (q : Heap). occurs k (members q)) t.2);
       others = λ k none. refl;
@@ -107,6 +108,7 @@ module _ (es ms fs : List Item) (c : Cell) (top at rest : ℕ) (left right : Hea
         left = melded.both;
         right = None;
         fork = fork;
+        up = ap (λ (e : Item). e.up) here ∙ is_up;
         can = record {
           short = omega (arith, can.short, long);
           cell = can.cell;
@@ -141,6 +143,7 @@ module _ (es ms fs : List Item) (c : Cell) (top at rest : ℕ) (left right : Hea
         left = None;
         right = melded.both;
         fork = fork;
+        up = ap (λ (e : Item). e.up) here ∙ is_up;
         can = record {
           short = omega (arith, can.short, long);
           cell = can.cell;

@@ -53,9 +53,6 @@ module _ (es fs gs hs : List Item) (first x y up a b under : ℕ) (p q : Heap) (
   not-y : (k : ℕ) → occurs k (members q) ≡ 0 → y ≢ no_slot → k ≢ y
   not-y k none some e = omega (arith, none, top-in es under y q fq some, ap (λ n. occurs n (members q)) e)
 
-  pub joined-long : length hs ≡ length es
-  joined-long = is.long ∙ kinds.long ∙ keeps.long
-
   pub joined-areas : KeepsAreas es hs
   joined-areas = plain-then es gs hs (plain-then es fs gs keeps (plain-areas fs gs kinds)) (put-areas gs hs first up a b true is)
 

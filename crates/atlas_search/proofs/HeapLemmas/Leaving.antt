@@ -1,29 +1,30 @@
 -- What hangs below an entry becomes one heap.
-use Rattle.std.proofs.Common.{◌≡◌, ◌≢◌, ℕ, zero, suc, ◌+◌, ◌-◌, ◌<◌, ◌≤◌, ◌==◌, Bool, true, false, List, length, refl, ap, sym, ◌∙◌, subst}
-use Rattle.std.proofs.Common.{inl, inr, arith}
+use Rattle.std.proofs.Common.{◌≡◌, ◌≢◌, ℕ, zero, suc, ◌+◌, ◌-◌, ◌<◌, ◌≤◌, ◌==◌, ◌⊎◌, Bool, true, false, List, length, map, refl}
+use Rattle.std.proofs.Common.{ap, sym, ◌∙◌, subst, inl, inr, arith}
 use Rattle.std.specs.Prelude.{if◌then◌else◌}
 use Rattle.std.proofs.lemmas.Bool.{cases_eq, cond-true, cond-false, eq-eqb, ne_eqb, true≢false}
-use Rattle.std.proofs.lemmas.List.{length-append}
+use Rattle.std.proofs.lemmas.List.{length-append, length-map}
 use Rattle.atlas_search.specs.declared.cells.Cell.{Cell}
-use Rattle.atlas_model.specs.Boxes.{Box, Sides, box_sides}
+use Rattle.atlas_model.specs.Boxes.{Sides, box_sides}
 use Rattle.atlas_model.specs.Choice.{ComesFirst}
 use Rattle.atlas_model.specs.Pixels.{box_of}
-use Rattle.atlas_search.specs.Forks.{IsAlike, IsIn, IsRouted, IsSplit, high, is_cut_wide, low, low_by, middle}
-use Rattle.atlas_search.specs.HeapCalls.{ArePartsBelow, HasLeft, IsLinked, IsMelded, IsPut, KeepsAreas, KeepsKinds}
+use Rattle.atlas_search.specs.Forks.{IsAlike, IsIn, IsRouted, IsSplit, Reroutes, high, is_cut_wide, low, low_by, middle}
+use Rattle.atlas_search.specs.HeapCalls.{AreHeapsOf, ArePartsBelow, HasLeft, IsLinked, IsMelded, IsPut, KeepsAreas, KeepsKinds}
 use Rattle.atlas_search.specs.Heaps.{Heap, IsAbove, IsHeap, members}
 use Rattle.atlas_search.specs.Heaps.Heap.{None, Top}
 use Rattle.atlas_search.specs.Items.{Item, forked, item_at, item_box, item_sides, linked}
 use Rattle.atlas_search.specs.Numbers.{occurs, same, no_slot}
 use Rattle.atlas_search.specs.Rectangles.{IsSolid}
 use Rattle.atlas_search.proofs.Occurrences.{length-distinct, same-self}
-use Rattle.atlas_search.proofs.HeapLemmas.Hanging.{first-of, heap-reup}
-use Rattle.atlas_search.proofs.HeapLemmas.Joining.{joined-areas, joined-first, joined-long, joined-others, joined-p, joined-q, routes-p}
-use Rattle.atlas_search.proofs.HeapLemmas.Joining.{routes-q}
+use Rattle.atlas_search.proofs.HeapLemmas.Frames.{heap-frame}
+use Rattle.atlas_search.proofs.HeapLemmas.Hanging.{first-of, heap-reup, plain-areas, plain-then, top-in}
+use Rattle.atlas_search.proofs.HeapLemmas.Joining.{put-areas}
 use Rattle.atlas_search.proofs.HeapLemmas.Melding.{linked-areas}
 use Rattle.atlas_search.proofs.HeapLemmas.Removing.{below-of}
+use Rattle.atlas_search.proofs.HeapLemmas.Sinking.{order-kept}
 use Rattle.atlas_search.proofs.SearchLemmas.Cells.{cut-high, cut-wide, high-within}
-use Rattle.atlas_search.proofs.SearchLemmas.Heaps.{first-then, heap-inside, none-of, occurs-top, top-first}
-use Rattle.atlas_search.proofs.SearchLemmas.Routes.{alike-routed, routed-frame}
+use Rattle.atlas_search.proofs.SearchLemmas.Heaps.{first-then, heap-inside, none-of, occurs-top, top-of}
+use Rattle.atlas_search.proofs.SearchLemmas.Routes.{alike-routed, reroutes-kept, reroutes-same, reroutes-then, routed-frame, sides-same}
 
 -- ---- sizes of a half
 
@@ -47,8 +48,9 @@ hanging es zero top = 0
 hanging es (suc bound) top =
     if top == no_slot then 0 else suc (hanging es bound (item_at es top).left + hanging es bound (item_at es top).right)
 
-abbrev pub hanging_below : List Item → ℕ → ℕ
-hanging_below es at = hanging es (length es) (item_at es at).left + hanging es (length es) (item_at es at).right
+-- How many two heaps with these tops have.
+abbrev pub hanging_both : List Item → (x y : ℕ) → ℕ
+hanging_both es x y = hanging es (length es) x + hanging es (length es) y
 
 hanging-is : (es : List Item) (bound up top : ℕ) (h : Heap) → length es ≤ no_slot → IsHeap es up top h → length (members h) ≤ bound
     → hanging es bound top ≡ length (members h)
@@ -72,15 +74,13 @@ part-most : (es : List Item) (up top : ℕ) (h : Heap) → IsHeap es up top h �
     → length (members h) ≤ length es
 part-most es up top h is once = length-distinct (length es) (members h) once (λ k l. heap-inside es up top h is k l)
 
-below-counts : (es : List Item) (at : ℕ) (left right : Heap) → ArePartsBelow es at left right
-    → hanging_below es at ≡ length (members left) + length (members right)
-below-counts es at left right a =
+both-count : (es : List Item) (at x y : ℕ) (left right : Heap) → AreHeapsOf es at x y left right
+    → hanging_both es x y ≡ length (members left) + length (members right)
+both-count es at x y left right a =
     omega (
       arith,
-      hanging-is es (length es) at (item_at es at).left left a.short a.low
-          (part-most es at (item_at es at).left left a.low (λ k. omega (arith, a.once k))),
-      hanging-is es (length es) at (item_at es at).right right a.short a.high
-          (part-most es at (item_at es at).right right a.high (λ k. omega (arith, a.once k))),
+      hanging-is es (length es) at x left a.short a.low (part-most es at x left a.low (λ k. omega (arith, a.once k))),
+      hanging-is es (length es) at y right a.short a.high (part-most es at y right a.high (λ k. omega (arith, a.once k))),
     )
 
 -- A part with its top, and what hangs below that.
@@ -110,58 +110,101 @@ part-of es at x h short is some once exact =
       counts = omega (arith, ap (λ (q : Heap). length (members q)) b.is, length-append (members b.left) (members b.right));
     }
 
-module _ (es : List Item) (at x y : ℕ) (left right : Heap) (a : ArePartsBelow es at left right) (is_x : x ≡ (item_at es at).left)
-    (is_y : y ≡ (item_at es at).right) where
-  pub left-heap : IsHeap es at x left
-  left-heap = subst (λ n. IsHeap es at n left) (sym is_x) a.low
+-- What hangs below a fork are heaps of it, by the links that were read.
+pub heaps-of : (es : List Item) (at x y : ℕ) (left right : Heap) → ArePartsBelow es at left right → (item_at es at).is_fork ≡ true
+    → x ≡ (item_at es at).left → y ≡ (item_at es at).right → AreHeapsOf es at x y left right
+heaps-of es at x y left right a isf is_x is_y = record {
+  short = a.short;
+  fork = isf;
+  low = subst (λ n. IsHeap es at n left) (sym is_x) a.low;
+  high = subst (λ n. IsHeap es at n right) (sym is_y) a.high;
+  once = a.once;
+  exact = a.exact;
+}
 
-  pub right-heap : IsHeap es at y right
-  right-heap = subst (λ n. IsHeap es at n right) (sym is_y) a.high
+-- They stay its heaps where its links alone are written.
+pub heaps-put : (es fs : List Item) (at x y up a b : ℕ) (left right : Heap) → ArePartsBelow es at left right → IsPut es fs at up a b true
+    → x ≡ (item_at es at).left → y ≡ (item_at es at).right → AreHeapsOf fs at x y left right
+heaps-put es fs at x y up a b left right was is is_x is_y =
+    let kept : (k : ℕ) → 0 < occurs k (members left) + occurs k (members right) → item_at fs k ≡ item_at es k =
+    λ k l. is.others k (λ e. omega (arith, l, was.once k, ap (λ n. same n at) e, same-self at)) in
+    record {
+      short = omega (arith, was.short, is.long);
+      fork = ap (λ (e : Item). e.is_fork) is.here;
+      low = heap-frame es fs at x left is.long (λ k l. kept k (omega (arith, l))) (subst (λ n. IsHeap es at n left) (sym is_x) was.low);
+      high = heap-frame es fs at y right is.long (λ k l. kept k (omega (arith, l))) (subst (λ n. IsHeap es at n right) (sym is_y) was.high);
+      once = was.once;
+      exact = λ k l. subst (λ (e : Item). IsSolid e.area) (sym (kept k l)) (was.exact k l);
+    }
 
-  pub left-part : x ≢ no_slot → HasPart es at x left
-  left-part some = part-of es at x left a.short left-heap some (λ k. omega (arith, a.once k)) (λ k m. a.exact k (omega (arith, m)))
+-- The other way round.
+pub heaps-turned : (es : List Item) (at x y : ℕ) (left right : Heap) → AreHeapsOf es at x y left right → AreHeapsOf es at y x right left
+heaps-turned es at x y left right a = record {
+  short = a.short;
+  fork = a.fork;
+  low = a.high;
+  high = a.low;
+  once = λ k. omega (arith, a.once k);
+  exact = λ k l. a.exact k (omega (arith, l));
+}
 
-  pub right-part : y ≢ no_slot → HasPart es at y right
-  right-part some = part-of es at y right a.short right-heap some (λ k. omega (arith, a.once k)) (λ k m. a.exact k (omega (arith, m)))
+-- The entry that comes up is one of the list.
+pub first-within : {E : Type 0} (item : E → Item) (xs ys : List E) (at z w : ℕ) (h q : Heap) → AreHeapsOf (map item xs) at z w h q
+    → z ≢ no_slot → length (map item ys) ≡ length (map item xs) → z < length ys
+first-within item xs ys at z w h q a some long =
+    omega (
+      arith,
+      (top-of (map item xs) at z h a.low some).inside,
+      long,
+      length-map ys item,
+    )
 
-  pub left-falls : (some : x ≢ no_slot) → hanging_below es x < hanging_below es at
-  left-falls some =
-      let p = left-part some in
-      omega (arith, p.counts, below-counts es at left right a, below-counts es x p.left p.right p.parts)
+-- Of two tops the left one is the next, or the right one.
+abbrev pub IsNext : Bool → (x y n : ℕ) → Type 0
+IsNext b x y n = ((b ≡ true) × (n ≡ x)) ⊎ ((b ≡ false) × (n ≡ y))
 
-  pub right-falls : (some : y ≢ no_slot) → hanging_below es y < hanging_below es at
-  right-falls some =
-      let p = right-part some in
-      omega (arith, p.counts, below-counts es at left right a, below-counts es y p.left p.right p.parts)
+pub next-is : (b : Bool) (x y n : ℕ) → IsNext b x y n → n ≡ (if b then x else y)
+next-is b x y n i = elim i [
+  | inl e ↦ e.1 ∙ sym (cond-true b x y e.0)
+  | inr e ↦ e.1 ∙ sym (cond-false b x y e.0)
+]
 
-  pub left-inside : x ≢ no_slot → x < length es
-  left-inside some = (left-part some).parts.inside
+-- There is a next one where one of them is.
+pub next-none : (b : Bool) (x y n : ℕ) → IsNext b x y n → (b ≡ true → x ≢ no_slot) → (b ≡ false → x ≢ no_slot → y ≢ no_slot)
+    → n ≡ no_slot → (x ≡ no_slot) × (y ≡ no_slot)
+next-none b x y n i some more none = elim i [
+  | inl e ↦ absurd (some e.0 (sym e.1 ∙ none))
+  | inr e ↦ (elim (cases_eq x no_slot) [ inl z ↦ z | inr ne ↦ absurd (more e.0 ne (sym e.1 ∙ none)) ], sym e.1 ∙ none)
+]
 
-  pub right-inside : y ≢ no_slot → y < length es
-  right-inside some = (right-part some).parts.inside
+pub next-right : (b : Bool) (x y n : ℕ) → IsNext b x y n → n ≢ no_slot → b ≡ false → y ≢ no_slot
+next-right b x y n i some isn none = elim i [
+  | inl e ↦ true≢false (sym e.0 ∙ isn)
+  | inr e ↦ some (e.1 ∙ none)
+]
 
-  pub left-solid : x ≢ no_slot → IsSolid (item_at es x).area
-  left-solid some =
-      let p = left-part some in
-      a.exact x (omega (arith, ap (λ (q : Heap). occurs x (members q)) p.is, occurs-top x x p.left p.right, same-self x))
+-- The top of what came up, by the side that it was on.
+pub left-came : (es fs : List Item) (b : Bool) (up x y at : ℕ) (left right : Heap) → b ≡ true → HasLeft es fs up x at left right
+    → HasLeft es fs up (if b then x else y) at left right
+left-came es fs b up x y at left right is = subst (λ n. HasLeft es fs up n at left right) (sym (cond-true b x y is))
 
-  pub right-solid : y ≢ no_slot → IsSolid (item_at es y).area
-  right-solid some =
-      let p = right-part some in
-      a.exact y (omega (arith, ap (λ (q : Heap). occurs y (members q)) p.is, occurs-top y y p.left p.right, same-self y))
+pub right-came : (es fs : List Item) (b : Bool) (up x y at : ℕ) (left right : Heap) → b ≡ false → HasLeft es fs up y at left right
+    → HasLeft es fs up (if b then x else y) at left right
+right-came es fs b up x y at left right is = subst (λ n. HasLeft es fs up n at left right) (sym (cond-false b x y is))
 
-  -- Nothing is there.
-  pub leaves-none : (up : ℕ) → x ≡ no_slot → y ≡ no_slot → HasLeft es es up y at left right
-  leaves-none up no_left no_right =
-      let low = none-of es at x left a.short left-heap no_left in
-      let high = none-of es at y right a.short right-heap no_right in
-      record {
-        both = None;
-        heap = no_right;
-        has = λ k. omega (arith, ap (λ (q : Heap). occurs k (members q)) low, ap (λ (q : Heap). occurs k (members q)) high);
-        others = λ k none. refl;
-        routes = record { routed = λ c was. tt; alike = λ s was j l. absurd (omega (arith, l)) };
-      }
+-- Nothing is there.
+pub leaves-none : (es : List Item) (at x y up top : ℕ) (left right : Heap) → AreHeapsOf es at x y left right → x ≡ no_slot → y ≡ no_slot
+    → top ≡ no_slot → HasLeft es es up top at left right
+leaves-none es at x y up top left right a no_left no_right none =
+    let low = none-of es at x left a.short a.low no_left in
+    let high = none-of es at y right a.short a.high no_right in
+    record {
+      both = None;
+      heap = none;
+      has = λ k. omega (arith, ap (λ (q : Heap). occurs k (members q)) low, ap (λ (q : Heap). occurs k (members q)) high);
+      others = λ k none. refl;
+      routes = record { routed = λ c was. tt; alike = λ s was j l. absurd (omega (arith, l)) };
+    }
 
 -- ---- an entry that is no fork
 
@@ -190,223 +233,256 @@ leaves-alike es fs at up top left right isn m kinds = record {
         let w = was j (omega (arith, l, m.has j)) in
         (ap (λ r. box_sides (box_of r)) (kinds.areas j) ∙ w.0, kinds.forks j ∙ w.1)
 
--- ---- a fork with one side, whose top is no fork
+-- ---- a top that comes up, below which something else hangs then
 
-lone-left : (es fs : List Item) (at up x y : ℕ) (l r right : Heap) → ArePartsBelow es at (Top x l r) right
-    → (item_at es at).is_fork ≡ true → x ≡ (item_at es at).left → y ≡ (item_at es at).right → y ≡ no_slot
-    → (item_at es x).is_fork ≡ false → IsLinked es fs x up (item_at es x).left (item_at es x).right
-    → HasLeft es fs up x at (Top x l r) right
-lone-left es fs at up x y l r right a isf is_x is_y no_right isn is =
-    let low_heap = left-heap es at x y (Top x l r) right a is_x is_y in
-    let none = none-of es at y right a.short (right-heap es at x y (Top x l r) right a is_x is_y) no_right in
-    let kinds = linked-areas es fs x up (item_at es x).left (item_at es x).right is in
+-- The entry z hangs below `up` and has the tops a and b: what hung below it is one heap, with the top `rest`.
+pub record HasRisen (gs hs : List Item) (z up rest a b : ℕ) (l r : Heap) : Type 0 where
+  pub keeps : KeepsAreas gs hs
+  pub here : item_at hs z ≡ forked (linked (item_at gs z) up a b) true
+  pub both : Heap
+  pub heap : IsHeap hs z rest both
+  pub has : (k : ℕ) → occurs k (members both) ≡ occurs k (members l) + occurs k (members r)
+  pub stays : (k : ℕ) → k ≢ z → occurs k (members l) + occurs k (members r) ≡ 0 → item_at hs k ≡ item_at gs k
+  pub routes : Reroutes gs hs (Top z l r) both
+
+-- It was no fork: what hung below it was melded, and then its links were written.
+pub rises-closed : (gs ms hs : List Item) (z up rest a b : ℕ) (l r : Heap) → ArePartsBelow gs z l r → (item_at gs z).is_fork ≡ false
+    → IsMelded gs ms z rest l r → KeepsKinds gs ms → IsPut ms hs z up a b true → HasRisen gs hs z up rest a b l r
+rises-closed gs ms hs z up rest a b l r parts isn m kinds is =
+    let part = leaves-alike gs ms z z rest l r isn m kinds in
+    let kept : (k : ℕ) → 0 < occurs k (members part.both) → item_at hs k ≡ item_at ms k =
+    λ k l. is.others k (λ e. omega (arith, l, part.has k, parts.once k, ap (λ n. same n z) e, same-self z)) in
     record {
-      both = Top x l r;
-      heap = heap-reup es fs at up x (Top x l r) a.short is.long (λ e. omega (arith, e, low_heap.0.1, a.short)) low_heap
-          (λ k. omega (arith, a.once k)) is.here (λ k m ne. is.others k ne);
-      has = λ k. omega (arith, ap (λ (q : Heap). occurs k (members q)) none);
-      others = λ k z. is.others k (λ e. omega (arith, z, occurs-top k x l r, ap (λ n. same n x) e, same-self x));
-      routes = record {
-        routed = λ c was.
-            let f = was.1 isf in
-            routed-frame es fs c (Top x l r) (λ k m. (kinds.areas k, kinds.forks k))
-            (low-in c (item_sides (item_at es x)) f.0 f.1.0, λ e. absurd (true≢false (sym e ∙ isn)), f.1.2);
-        alike = λ s was j m.
-            absurd (true≢false (sym isf ∙ (was at (omega (arith, same-self at, occurs-top at at (Top x l r) right))).1));
-      };
+      keeps = plain-then gs ms hs (plain-areas gs ms kinds) (put-areas ms hs z up a b true is);
+      here = is.here
+          ∙ ap (λ (e : Item). forked (linked e up a b) true) (part.others z (omega (arith, parts.once z, same-self z)));
+      both = part.both;
+      heap = heap-frame ms hs z rest part.both is.long kept part.heap;
+      has = part.has;
+      stays = λ k ne none. is.others k ne ∙ part.others k none;
+      routes = reroutes-then gs ms hs (Top z l r) part.both part.both part.routes (reroutes-same ms hs part.both kept);
     }
 
-lone-right : (es fs : List Item) (at up x y : ℕ) (l r left : Heap) → ArePartsBelow es at left (Top y l r)
-    → (item_at es at).is_fork ≡ true → x ≡ (item_at es at).left → y ≡ (item_at es at).right → x ≡ no_slot
-    → (item_at es y).is_fork ≡ false → IsLinked es fs y up (item_at es y).left (item_at es y).right
-    → HasLeft es fs up y at left (Top y l r)
-lone-right es fs at up x y l r left a isf is_x is_y no_left isn is =
-    let high_heap = right-heap es at x y left (Top y l r) a is_x is_y in
-    let none = none-of es at x left a.short (left-heap es at x y left (Top y l r) a is_x is_y) no_left in
-    let kinds = linked-areas es fs y up (item_at es y).left (item_at es y).right is in
+-- It was a fork: its links were written, and then what hung below it went on.
+pub rises-lifted : (gs ps hs : List Item) (z up rest a b : ℕ) (l r : Heap) → ArePartsBelow gs z l r → (item_at gs z).is_fork ≡ true
+    → IsPut gs ps z up a b true → HasLeft ps hs z rest z l r → KeepsAreas ps hs → HasRisen gs hs z up rest a b l r
+rises-lifted gs ps hs z up rest a b l r parts isf is part keeps =
+    let areas = put-areas gs ps z up a b true is in
     record {
-      both = Top y l r;
-      heap = heap-reup es fs at up y (Top y l r) a.short is.long (λ e. omega (arith, e, high_heap.0.1, a.short)) high_heap
-          (λ k. omega (arith, a.once k)) is.here (λ k m ne. is.others k ne);
-      has = λ k. omega (arith, ap (λ (q : Heap). occurs k (members q)) none);
-      others = λ k z. is.others k (λ e. omega (arith, z, occurs-top k y l r, ap (λ n. same n y) e, same-self y));
-      routes = record {
-        routed = λ c was.
-            let f = was.1 isf in
-            routed-frame es fs c (Top y l r) (λ k m. (kinds.areas k, kinds.forks k))
-            (high-within c (item_sides (item_at es y)) f.2.0, λ e. absurd (true≢false (sym e ∙ isn)), f.2.2);
-        alike = λ s was j m.
-            absurd (true≢false (sym isf ∙ (was at (omega (arith, same-self at, occurs-top at at left (Top y l r)))).1));
-      };
+      keeps = plain-then gs ps hs areas keeps;
+      here = part.others z (omega (arith, parts.once z, same-self z)) ∙ is.here;
+      both = part.both;
+      heap = part.heap;
+      has = part.has;
+      stays = λ k ne none. part.others k none ∙ is.others k ne;
+      routes = reroutes-then gs ps hs (Top z l r) (Top z l r) part.both
+          (reroutes-kept gs ps (Top z l r) (λ k m. (
+            areas.areas k,
+            elim (cases_eq k z) [
+              | inl e ↦ ap (λ n. (item_at ps n).is_fork) e ∙ ap (λ (t : Item). t.is_fork) is.here ∙ sym isf
+                  ∙ sym (ap (λ n. (item_at gs n).is_fork) e)
+              | inr ne ↦ ap (λ (t : Item). t.is_fork) (is.others k ne)
+            ],
+          ))) part.routes;
     }
 
--- ---- a fork whose left or right top comes up
+-- ---- of two heaps of a fork, h and q, the one with the top z comes up
 
--- The entry z hangs below a fork, with l and r below it, and comes up; what hung beside it is q, with the top w.
-module _ (es fs gs hs : List Item) (at up z w rest a b : ℕ) (l r q : Heap) (short : length es ≤ no_slot)
-    (once : (k : ℕ) → same k at + (occurs k (members (Top z l r)) + occurs k (members q)) ≤ 1)
-    (zs : IsHeap es at z (Top z l r)) (ws : IsHeap es at w q) (part : HasLeft es fs z rest z l r) (keeps : KeepsAreas es fs)
-    (moves : (v : ℕ) (h : Heap) → IsHeap fs v w h → ((k : ℕ) → occurs k (members h) ≤ 1) → IsHeap gs z w h)
-    (others : (k : ℕ) → (w ≢ no_slot → k ≢ w) → item_at gs k ≡ item_at fs k) (kinds : KeepsKinds fs gs)
-    (is : IsPut gs hs z up a b true)
-    (first : w ≢ no_slot → ComesFirst (item_box (item_at es z)) (item_box (item_at es w))) where
-  abbrev count : ℕ → ℕ
-  count k = occurs k (members l) + occurs k (members r)
+module _ (es : List Item) (at z w : ℕ) (h q : Heap) (a : AreHeapsOf es at z w h q) where
+  pub first-part : z ≢ no_slot → HasPart es at z h
+  first-part some = part-of es at z h a.short a.low some (λ k. omega (arith, a.once k)) (λ k m. a.exact k (omega (arith, m)))
 
-  apart : (k : ℕ) → same k z + (count k + occurs k (members q)) ≤ 1
-  apart k = omega (arith, once k, occurs-top k z l r)
+  pub first-inside : z ≢ no_slot → z < length es
+  first-inside some = (first-part some).parts.inside
 
-  areas : KeepsAreas es hs
-  areas = joined-areas es fs gs hs z rest w up a b at part.both q count short zs.0.1 apart part.heap part.has part.others keeps ws
-      moves others kinds is
+  pub first-solid : z ≢ no_slot → IsSolid (item_at es z).area
+  first-solid some = a.exact z (omega (arith, top-in es at z h a.low some))
 
-  long : length hs ≡ length es
-  long = joined-long es fs gs hs z rest w up a b at part.both q count short zs.0.1 apart part.heap part.has part.others keeps ws
-      moves others kinds is
+  module _ (some : z ≢ no_slot) where
+    abbrev p : HasPart es at z h
+    p = first-part some
 
-  here : item_at hs z ≡ forked (linked (item_at es z) up a b) true
-  here = joined-first es fs gs hs z rest w up a b at part.both q count short zs.0.1 apart part.heap part.has part.others keeps ws
-      moves others kinds is
+    counted : (k : ℕ) → occurs k (members h) ≡ same k z + (occurs k (members p.left) + occurs k (members p.right))
+    counted k = omega (arith, ap (λ (g : Heap). occurs k (members g)) p.is, occurs-top k z p.left p.right)
 
-  rose-p : IsHeap hs z rest part.both
-  rose-p = joined-p es fs gs hs z rest w up a b at part.both q count short zs.0.1 apart part.heap part.has part.others keeps ws
-      moves others kinds is
+    top-routed : (c : Cell) → IsRouted es c h → IsRouted es c (Top z p.left p.right)
+    top-routed c = subst (λ (g : Heap). IsRouted es c g) p.is
 
-  rose-q : IsHeap hs z w q
-  rose-q = joined-q es fs gs hs z rest w up a b at part.both q count short zs.0.1 apart part.heap part.has part.others keeps ws
-      moves others kinds is
+    pub falls : (fs : List Item) (x y : ℕ) → AreHeapsOf fs z x y p.left p.right → hanging_both fs x y < hanging_both es z w
+    falls fs x y b = omega (arith, p.counts, both-count es at z w h q a, both-count fs z x y p.left p.right b)
 
-  rose-others : (k : ℕ) → occurs k (members (Top z l r)) + occurs k (members q) ≡ 0 → item_at hs k ≡ item_at es k
-  rose-others k none =
-      joined-others es fs gs hs z rest w up a b at part.both q count short zs.0.1 apart part.heap part.has part.others keeps ws
-      moves others kinds is k (λ e. omega (arith, none, occurs-top k z l r, ap (λ n. same n z) e, same-self z))
-      (omega (arith, none, occurs-top k z l r)) (omega (arith, none))
+    -- It is alone, and no fork.
+    module _ (fs : List Item) (up : ℕ) (lone : w ≡ no_slot) (isn : (item_at es z).is_fork ≡ false)
+        (is : IsLinked es fs z up (item_at es z).left (item_at es z).right) where
+      none : (k : ℕ) → occurs k (members q) ≡ 0
+      none k = ap (λ (g : Heap). occurs k (members g)) (none-of es at w q a.short a.high lone)
 
-  carry : (j : ℕ) → ComesFirst (item_box (item_at es z)) (item_box (item_at es j))
-      → ComesFirst (item_box (item_at hs z)) (item_box (item_at hs j))
-  carry j f =
-      subst (λ (v : Box). ComesFirst v (item_box (item_at hs j))) (sym (ap box_of (areas.areas z)))
-      (subst (λ (v : Box). ComesFirst (item_box (item_at es z)) v) (sym (ap box_of (areas.areas j))) f)
+      kinds : KeepsKinds es fs
+      kinds = linked-areas es fs z up (item_at es z).left (item_at es z).right is
 
-  above-p : IsAbove hs z part.both
-  above-p j m = carry j (top-first es at z z l r zs j (omega (arith, m, part.has j, occurs-top j z l r)))
+      hangs : IsHeap fs up z h
+      hangs = heap-reup es fs at up z h a.short is.long some a.low (λ k. omega (arith, a.once k)) is.here (λ k m ne. is.others k ne)
 
-  above-q : IsAbove hs z q
-  above-q j m =
-      let some : w ≢ no_slot = λ e. omega (arith, m, ap (λ (v : Heap). occurs j (members v)) (none-of es at w q short ws e)) in
-      carry j (first-then (item_box (item_at es z)) (item_box (item_at es w)) (item_box (item_at es j)) (first some)
-      (first-of es at w q ws j m))
+      stays : (k : ℕ) → occurs k (members h) + occurs k (members q) ≡ 0 → item_at fs k ≡ item_at es k
+      stays k empty = is.others k (λ e. omega (arith, empty, top-in es at z h a.low some, ap (λ n. occurs n (members h)) e))
 
-  inside : z < length hs
-  inside = omega (arith, zs.0.1, long)
+      -- In the whole of a cell as in a half.
+      wider : (c d : Cell) → IsIn (item_sides (item_at es z)) c → IsRouted es d h → IsRouted fs c h
+      wider c d within was = routed-frame es fs c h (λ k m. (kinds.areas k, kinds.forks k))
+          (subst (λ (g : Heap). IsRouted es c g) (sym p.is) (within, λ e. absurd (true≢false (sym e ∙ isn)), (top-routed d was).2))
 
-  in-cell : (c : Cell) → IsIn (item_sides (item_at es z)) c → IsIn (item_sides (item_at hs z)) c
-  in-cell c i = subst (λ (s : Sides). IsIn s c) (sym (ap (λ t. box_sides (box_of t)) (areas.areas z))) i
+      pub lone-left : HasLeft es fs up z at h q
+      lone-left = record {
+        both = h;
+        heap = hangs;
+        has = λ k. omega (arith, none k);
+        others = stays;
+        routes = record {
+          routed = λ c was.
+              let f = was.1 a.fork in
+              wider c (low c) (low-in c (item_sides (item_at es z)) f.0 (top-routed (low c) f.1).0) f.1;
+          alike = λ s was j m. absurd (true≢false (sym a.fork ∙ (was at (omega (arith, same-self at, occurs-top at at h q))).1));
+        };
+      }
 
-  part-routed : (c : Cell) → IsRouted es c (Top z l r) → IsRouted hs c part.both
-  part-routed c was = routed-frame fs hs c part.both
-      (routes-p es fs gs hs z rest w up a b at part.both q count short zs.0.1 apart part.heap part.has part.others keeps ws
-      moves others kinds is) (part.routes.routed c was)
+      pub lone-right : HasLeft es fs up z at q h
+      lone-right = record {
+        both = h;
+        heap = hangs;
+        has = λ k. omega (arith, none k);
+        others = λ k empty. stays k (omega (arith, empty));
+        routes = record {
+          routed = λ c was.
+              let f = was.1 a.fork in
+              wider c (high c) (high-within c (item_sides (item_at es z)) (top-routed (high c) f.2).0) f.2;
+          alike = λ s was j m. absurd (true≢false (sym a.fork ∙ (was at (omega (arith, same-self at, occurs-top at at q h))).1));
+        };
+      }
 
-  other-routed : (c : Cell) → IsRouted es c q → IsRouted hs c q
-  other-routed c was = routed-frame es hs c q
-      (routes-q es fs gs hs z rest w up a b at part.both q count short zs.0.1 apart part.heap part.has part.others keeps ws
-      moves others kinds is) was
+    -- The other one's top hangs below it now, if there is one.
+    module _ (gs : List Item)
+        (moves : (v : ℕ) (g : Heap) → IsHeap es v w g → ((k : ℕ) → occurs k (members g) ≤ 1) → IsHeap gs z w g)
+        (others : (k : ℕ) → (w ≢ no_slot → k ≢ w) → item_at gs k ≡ item_at es k) (kinds : KeepsKinds es gs) where
+      unmoved : (k : ℕ) → occurs k (members q) ≡ 0 → item_at gs k ≡ item_at es k
+      unmoved k none = others k (λ more e. omega (arith, none, top-in es at w q a.high more, ap (λ n. occurs n (members q)) e))
 
-  fork : (item_at hs z).is_fork ≡ true
-  fork = ap (λ (e : Item). e.is_fork) here
+      of-h : (k : ℕ) → 0 < occurs k (members h) → item_at gs k ≡ item_at es k
+      of-h k l = unmoved k (omega (arith, l, a.once k))
 
-  -- It was on the left.
-  pub rises-left : a ≡ rest → b ≡ w → (item_at es at).is_fork ≡ true → HasLeft es hs up z at (Top z l r) q
-  rises-left ea eb isf = record {
-    both = Top z part.both q;
-    heap = (
-      (refl, inside, ap (λ (e : Item). e.up) here),
-      (above-p, above-q),
-      (
-        subst (λ n. IsHeap hs z n part.both) (sym (ap (λ (e : Item). e.left) here ∙ ea)) rose-p,
-        subst (λ n. IsHeap hs z n q) (sym (ap (λ (e : Item). e.right) here ∙ eb)) rose-q,
-      ),
-    );
-    has = λ k. omega (arith, part.has k, occurs-top k z l r, occurs-top k z part.both q);
-    others = rose-others;
-    routes = record {
-      routed = λ c was.
-          let f = was.1 isf in (
-            in-cell c (low-in c (item_sides (item_at es z)) f.0 f.1.0),
-            λ e. (f.0, part-routed (low c) f.1, other-routed (high c) f.2),
-            λ e. absurd (true≢false (sym fork ∙ e)),
+      top-same : item_at gs z ≡ item_at es z
+      top-same = of-h z (top-in es at z h a.low some)
+
+      pub moved-parts : ArePartsBelow gs z p.left p.right
+      moved-parts = record {
+        short = omega (arith, a.short, kinds.long);
+        inside = omega (arith, p.parts.inside, kinds.long);
+        low = subst (λ n. IsHeap gs z n p.left) (sym (ap (λ (e : Item). e.left) top-same))
+            (heap-frame es gs z (item_at es z).left p.left kinds.long (λ k l. of-h k (omega (arith, l, counted k))) p.parts.low);
+        high = subst (λ n. IsHeap gs z n p.right) (sym (ap (λ (e : Item). e.right) top-same))
+            (heap-frame es gs z (item_at es z).right p.right kinds.long (λ k l. of-h k (omega (arith, l, counted k))) p.parts.high);
+        once = p.parts.once;
+        exact = λ k m. subst IsSolid (sym (kinds.areas k)) (p.parts.exact k m);
+      }
+
+      pub moved-heaps : (x y : ℕ) → (item_at gs z).is_fork ≡ true → x ≡ (item_at gs z).left → y ≡ (item_at gs z).right
+          → AreHeapsOf gs z x y p.left p.right
+      moved-heaps x y = heaps-of gs z x y p.left p.right moved-parts
+
+      module _ (hs : List Item) (up rest x y : ℕ) (m : HasRisen gs hs z up rest x y p.left p.right)
+          (first : w ≢ no_slot → ComesFirst (item_box (item_at es z)) (item_box (item_at es w))) where
+        areas : KeepsAreas es hs
+        areas = plain-then es gs hs (plain-areas es gs kinds) m.keeps
+
+        here : item_at hs z ≡ forked (linked (item_at es z) up x y) true
+        here = m.here ∙ ap (λ (e : Item). forked (linked e up x y) true) top-same
+
+        of-q : (k : ℕ) → 0 < occurs k (members q) → item_at hs k ≡ item_at gs k
+        of-q k l = m.stays k (λ e. omega (arith, l, a.once k, counted k, ap (λ n. same n z) e, same-self z))
+            (omega (arith, l, a.once k, counted k))
+
+        rose-q : IsHeap hs z w q
+        rose-q = heap-frame gs hs z w q m.keeps.long of-q (moves at q a.high (λ k. omega (arith, a.once k)))
+
+        rose-others : (k : ℕ) → occurs k (members h) + occurs k (members q) ≡ 0 → item_at hs k ≡ item_at es k
+        rose-others k none =
+            m.stays k (λ e. omega (arith, none, counted k, ap (λ n. same n z) e, same-self z)) (omega (arith, none, counted k))
+            ∙ unmoved k (omega (arith, none))
+
+        carry : (j : ℕ) → ComesFirst (item_box (item_at es z)) (item_box (item_at es j))
+            → ComesFirst (item_box (item_at hs z)) (item_box (item_at hs j))
+        carry j = order-kept es hs areas z j
+
+        above-p : IsAbove hs z m.both
+        above-p j l = carry j (first-of es at z h a.low j (omega (arith, l, m.has j, counted j)))
+
+        above-q : IsAbove hs z q
+        above-q j l =
+            let more : w ≢ no_slot = λ e. omega (arith, l, ap (λ (g : Heap). occurs j (members g)) (none-of es at w q a.short a.high e)) in
+            carry j (first-then (item_box (item_at es z)) (item_box (item_at es w)) (item_box (item_at es j)) (first more)
+            (first-of es at w q a.high j l))
+
+        inside : z < length hs
+        inside = omega (arith, p.parts.inside, areas.long)
+
+        in-cell : (c : Cell) → IsIn (item_sides (item_at es z)) c → IsIn (item_sides (item_at hs z)) c
+        in-cell c = subst (λ (s : Sides). IsIn s c) (sym (sides-same (item_at es z) (item_at hs z) (areas.areas z)))
+
+        part-routed : (c : Cell) → IsRouted es c h → IsRouted hs c m.both
+        part-routed c was = m.routes.routed c
+            (routed-frame es gs c (Top z p.left p.right) (λ k l. (kinds.areas k, kinds.forks k)) (top-routed c was))
+
+        other-routed : (c : Cell) → IsRouted es c q → IsRouted hs c q
+        other-routed c = routed-frame es hs c q (λ k l. (areas.areas k, ap (λ (e : Item). e.is_fork) (of-q k l) ∙ kinds.forks k))
+
+        fork : (item_at hs z).is_fork ≡ true
+        fork = ap (λ (e : Item). e.is_fork) here
+
+        -- It was on the left.
+        pub rises-left : x ≡ rest → y ≡ w → HasLeft es hs up z at h q
+        rises-left ex ey = record {
+          both = Top z m.both q;
+          heap = (
+            (refl, inside, ap (λ (e : Item). e.up) here),
+            (above-p, above-q),
+            (
+              subst (λ n. IsHeap hs z n m.both) (sym (ap (λ (e : Item). e.left) here ∙ ex)) m.heap,
+              subst (λ n. IsHeap hs z n q) (sym (ap (λ (e : Item). e.right) here ∙ ey)) rose-q,
+            ),
           );
-      alike = λ s was j m. absurd (true≢false (sym isf ∙ (was at (omega (arith, same-self at, occurs-top at at (Top z l r) q))).1));
-    };
-  }
+          has = λ k. omega (arith, m.has k, counted k, occurs-top k z m.both q);
+          others = rose-others;
+          routes = record {
+            routed = λ c was.
+                let f = was.1 a.fork in (
+                  in-cell c (low-in c (item_sides (item_at es z)) f.0 (top-routed (low c) f.1).0),
+                  λ e. (f.0, part-routed (low c) f.1, other-routed (high c) f.2),
+                  λ e. absurd (true≢false (sym fork ∙ e)),
+                );
+            alike = λ s was j l. absurd (true≢false (sym a.fork ∙ (was at (omega (arith, same-self at, occurs-top at at h q))).1));
+          };
+        }
 
-  -- It was on the right.
-  pub rises-right : a ≡ w → b ≡ rest → (item_at es at).is_fork ≡ true → HasLeft es hs up z at q (Top z l r)
-  rises-right ea eb isf = record {
-    both = Top z q part.both;
-    heap = (
-      (refl, inside, ap (λ (e : Item). e.up) here),
-      (above-q, above-p),
-      (
-        subst (λ n. IsHeap hs z n q) (sym (ap (λ (e : Item). e.left) here ∙ ea)) rose-q,
-        subst (λ n. IsHeap hs z n part.both) (sym (ap (λ (e : Item). e.right) here ∙ eb)) rose-p,
-      ),
-    );
-    has = λ k. omega (arith, part.has k, occurs-top k z l r, occurs-top k z q part.both);
-    others = λ k none. rose-others k (omega (arith, none));
-    routes = record {
-      routed = λ c was.
-          let f = was.1 isf in (
-            in-cell c (high-within c (item_sides (item_at es z)) f.2.0),
-            λ e. (f.0, other-routed (low c) f.1, part-routed (high c) f.2),
-            λ e. absurd (true≢false (sym fork ∙ e)),
+        -- It was on the right.
+        pub rises-right : x ≡ w → y ≡ rest → HasLeft es hs up z at q h
+        rises-right ex ey = record {
+          both = Top z q m.both;
+          heap = (
+            (refl, inside, ap (λ (e : Item). e.up) here),
+            (above-q, above-p),
+            (
+              subst (λ n. IsHeap hs z n q) (sym (ap (λ (e : Item). e.left) here ∙ ex)) rose-q,
+              subst (λ n. IsHeap hs z n m.both) (sym (ap (λ (e : Item). e.right) here ∙ ey)) m.heap,
+            ),
           );
-      alike = λ s was j m. absurd (true≢false (sym isf ∙ (was at (omega (arith, same-self at, occurs-top at at q (Top z l r)))).1));
-    };
-  }
-
--- The same by the links that were read.
-module _ (es : List Item) (at up x y : ℕ) (left right : Heap) (a : ArePartsBelow es at left right) (isf : (item_at es at).is_fork ≡ true)
-    (is_x : x ≡ (item_at es at).left) (is_y : y ≡ (item_at es at).right) where
-  pub leaves-left : (fs : List Item) → x ≢ no_slot → y ≡ no_slot → (item_at es x).is_fork ≡ false
-      → IsLinked es fs x up (item_at es x).left (item_at es x).right → HasLeft es fs up x at left right
-  leaves-left fs some no_right isn is =
-      let p = left-part es at x y left right a is_x is_y some in
-      subst (λ (g : Heap). ArePartsBelow es at g right → HasLeft es fs up x at g right) (sym p.is)
-      (λ b. lone-left es fs at up x y p.left p.right right b isf is_x is_y no_right isn is) a
-
-  pub leaves-right : (fs : List Item) → y ≢ no_slot → x ≡ no_slot → (item_at es y).is_fork ≡ false
-      → IsLinked es fs y up (item_at es y).left (item_at es y).right → HasLeft es fs up y at left right
-  leaves-right fs some no_left isn is =
-      let p = right-part es at x y left right a is_x is_y some in
-      subst (λ (g : Heap). ArePartsBelow es at left g → HasLeft es fs up y at left g) (sym p.is)
-      (λ b. lone-right es fs at up x y p.left p.right left b isf is_x is_y no_left isn is) a
-
-  pub leaves-rising-left : (fs gs hs : List Item) (rest : ℕ) → x ≢ no_slot
-      → ((l r : Heap) → ArePartsBelow es x l r → HasLeft es fs x rest x l r) → KeepsAreas es fs
-      → ((v : ℕ) (h : Heap) → IsHeap fs v y h → ((k : ℕ) → occurs k (members h) ≤ 1) → IsHeap gs x y h)
-      → ((k : ℕ) → (y ≢ no_slot → k ≢ y) → item_at gs k ≡ item_at fs k) → KeepsKinds fs gs → IsPut gs hs x up rest y true
-      → (y ≢ no_slot → ComesFirst (item_box (item_at es x)) (item_box (item_at es y))) → HasLeft es hs up x at left right
-  leaves-rising-left fs gs hs rest some part keeps moves others kinds is first =
-      let p = left-part es at x y left right a is_x is_y some in
-      let ys = right-heap es at x y left right a is_x is_y in
-      subst (λ (g : Heap). ((k : ℕ) → same k at + (occurs k (members g) + occurs k (members right)) ≤ 1) → IsHeap es at x g
-      → HasLeft es hs up x at g right) (sym p.is)
-      (λ once xs. rises-left es fs gs hs at up x y rest rest y p.left p.right right a.short once xs ys
-      (part p.left p.right p.parts) keeps moves others kinds is first refl refl isf)
-      a.once (left-heap es at x y left right a is_x is_y)
-
-  pub leaves-rising-right : (fs gs hs : List Item) (rest : ℕ) → y ≢ no_slot
-      → ((l r : Heap) → ArePartsBelow es y l r → HasLeft es fs y rest y l r) → KeepsAreas es fs
-      → ((v : ℕ) (h : Heap) → IsHeap fs v x h → ((k : ℕ) → occurs k (members h) ≤ 1) → IsHeap gs y x h)
-      → ((k : ℕ) → (x ≢ no_slot → k ≢ x) → item_at gs k ≡ item_at fs k) → KeepsKinds fs gs → IsPut gs hs y up x rest true
-      → (x ≢ no_slot → ComesFirst (item_box (item_at es y)) (item_box (item_at es x))) → HasLeft es hs up y at left right
-  leaves-rising-right fs gs hs rest some part keeps moves others kinds is first =
-      let p = right-part es at x y left right a is_x is_y some in
-      let xs = left-heap es at x y left right a is_x is_y in
-      subst (λ (g : Heap). ((k : ℕ) → same k at + (occurs k (members g) + occurs k (members left)) ≤ 1) → IsHeap es at y g
-      → HasLeft es hs up y at left g) (sym p.is)
-      (λ once ys. rises-right es fs gs hs at up y x rest x rest p.left p.right left a.short once ys xs
-      (part p.left p.right p.parts) keeps moves others kinds is first refl refl isf)
-      (λ k. omega (arith, a.once k)) (right-heap es at x y left right a is_x is_y)
+          has = λ k. omega (arith, m.has k, counted k, occurs-top k z q m.both);
+          others = λ k none. rose-others k (omega (arith, none));
+          routes = record {
+            routed = λ c was.
+                let f = was.1 a.fork in (
+                  in-cell c (high-within c (item_sides (item_at es z)) (top-routed (high c) f.2).0),
+                  λ e. (f.0, other-routed (low c) f.1, part-routed (high c) f.2),
+                  λ e. absurd (true≢false (sym fork ∙ e)),
+                );
+            alike = λ s was j l. absurd (true≢false (sym a.fork ∙ (was at (omega (arith, same-self at, occurs-top at at q h))).1));
+          };
+        }

@@ -6,14 +6,14 @@ use Rattle.atlas_model.specs.Boxes.{Sides}
 use Rattle.atlas_model.specs.Choice.{ComesFirst}
 use Rattle.atlas_search.specs.Forks.{IsAlike, IsIn, IsRouted, IsSplit, high, low}
 use Rattle.atlas_search.specs.HeapCalls.{AreApart, CanSort, HasSorted, IsForked, IsMelded, IsPut, KeepsAreas, KeepsKinds}
-use Rattle.atlas_search.specs.Heaps.{Heap, IsHeap, members}
+use Rattle.atlas_search.specs.Heaps.{Heap, IsAbove, IsHeap, members}
 use Rattle.atlas_search.specs.Heaps.Heap.{Top}
 use Rattle.atlas_search.specs.Items.{Item, forked, item_at, item_box, item_sides, linked}
 use Rattle.atlas_search.specs.Numbers.{occurs, same, no_slot}
 use Rattle.atlas_search.specs.Rectangles.{IsSolid}
 use Rattle.atlas_search.proofs.Occurrences.{same-self, same-ne}
 use Rattle.atlas_search.proofs.HeapLemmas.Frames.{above-frame, heap-frame}
-use Rattle.atlas_search.proofs.HeapLemmas.Hanging.{plain-boxes, top-in, top-up}
+use Rattle.atlas_search.proofs.HeapLemmas.Hanging.{first-of, plain-boxes, top-in, top-up}
 use Rattle.atlas_search.proofs.HeapLemmas.Joining.{joined-areas, joined-first, joined-others, joined-p, joined-q, put-areas, routes-p}
 use Rattle.atlas_search.proofs.HeapLemmas.Joining.{routes-q}
 use Rattle.atlas_search.proofs.HeapLemmas.Alone.{alone, alone-has, alone-is}
@@ -79,7 +79,25 @@ module _ (es fs : List Item) (c : Cell) (top at : ℕ) (h : Heap) (can : CanSort
       ]);
     }
 
-    -- It has the size of all of them.
+    -- It hangs elsewhere, and has the size of all of them.
+    pub sorted-over : top ≢ no_slot → AreApart fs up at (alone at) can.under top h
+    sorted-over some = record {
+      short = omega (arith, can.short, is.long);
+      heap = here;
+      part = heap-frame es fs can.under top h is.long (λ k l. is.others k (out k l)) can.heap;
+      some = λ e. omega (arith, e, can.inside, can.short);
+      more = some;
+      once = λ k. omega (arith, can.once k, alone-has k at);
+      exact = λ k l. subst IsSolid (sym (areas.areas k)) (can.exact k (omega (arith, l, alone-has k at)));
+    }
+
+    pub sorted-above : top ≢ no_slot → ComesFirst (item_box (item_at es at)) (item_box (item_at es top)) → IsAbove fs at h
+    sorted-above some order =
+        let boxes = plain-boxes es fs areas in
+        above-frame es fs at h (boxes at) (λ k l. boxes k)
+        (λ j l. first-then (item_box (item_at es at)) (item_box (item_at es top)) (item_box (item_at es j)) order
+        (first-of es can.under top h can.heap j l))
+
     pub sorted-apart : top ≢ no_slot → up ≡ (item_at es top).up → AreApart fs can.under top h can.under at (alone at)
     sorted-apart some link = record {
       short = omega (arith, can.short, is.long);
@@ -174,7 +192,7 @@ module _ (es : List Item) (c : Cell) (top at : ℕ) (l r : Heap) (can : CanSort 
   ]
 
   -- All come after the first.
-  after : (j : ℕ) → 0 < same j rest + (occurs j (members l) + occurs j (members r)) →
+  pub after : (j : ℕ) → 0 < same j rest + (occurs j (members l) + occurs j (members r)) →
       ComesFirst (item_box (item_at es first)) (item_box (item_at es j))
   after j m = elim (cases_eq j rest) [
     | inl e ↦ subst (λ n. ComesFirst (item_box (item_at es first)) (item_box (item_at es n))) (sym e) order

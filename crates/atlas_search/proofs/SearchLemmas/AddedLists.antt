@@ -13,11 +13,11 @@ use Rattle.atlas_model.specs.Choice.{Options}
 use Rattle.atlas_search.specs.Heaps.{Heap, members, tag_of}
 use Rattle.atlas_search.specs.Items.{Item, item_at, item_sides, shown_item, shown_items}
 use Rattle.atlas_search.specs.Numbers.{no_slot, occurs}
-use Rattle.atlas_search.specs.Lookups.{HasShown, AreListed, AreBelow, HasAdded, IsItemBelow}
+use Rattle.atlas_search.specs.Lookups.{AreAfter, AreBelow, AreLarger, AreListed, HasAdded, HasShownTo, IsItemBelow}
 use Rattle.atlas_search.specs.Searches.{Shown}
 use Rattle.atlas_search.specs.Tables.{head_of, is_used_at}
 use Rattle.atlas_search.specs.Showing.{IsListShowable}
-use Rattle.atlas_search.proofs.SearchLemmas.BandLaws.{band_below}
+use Rattle.atlas_search.proofs.SearchLemmas.BandLaws.{band_below, band_of-less}
 use Rattle.atlas_search.proofs.SearchLemmas.Heaps.{listed-some}
 use Rattle.atlas_search.proofs.SearchLemmas.ShownItems.{append-none, shown_items-has, shown_items-in}
 
@@ -125,11 +125,19 @@ module _ (o : Options) (es : List Item) (end : ℕ) (r : Sides) where
             → Contains (shown_items es xs) (shown_item es i)
         has-each i free e = grind (arith, shown_items-has)
 
+        -- Its entries are larger than a request where the place comes after the bands of its sides.
+        pub all-larger : AreAfter o r place.row place.column → AreLarger es r xs
+        all-larger after i has =
+            let own = a.own (number_of place) i number-below (omega (arith, same i, has)) in
+            let e = bands-of_list i own.1 in
+            let s = item_sides (item_at es i) in
+            (band_of-less o r.width s.width (omega (arith, e.0, after.0)), band_of-less o r.height s.height (omega (arith, e.1, after.1)))
+
         -- The list was shown.
-        pub added-list : (s t : Best) → HasShown es xs s t
+        pub added-list : (s t : Best) → HasShownTo es r xs s t
             → HasAdded o es end r (λ i j. (i ≡ place.row) × (j ≡ place.column)) s t
         added-list s t seen =
-            record { more = shown_items es xs; of_lists = of_list; each = has-each; seen = λ is_large shown h. seen is_large r shown h }
+            record { more = shown_items es xs; of_lists = of_list; each = has-each; seen = seen }
 
 -- Nothing that is in question was shown.
 pub added-nothing : (o : Options) (es : List Item) (end : ℕ) (r : Sides) (W : ℕ → ℕ → Type 0)

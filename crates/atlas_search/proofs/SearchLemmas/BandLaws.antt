@@ -2,7 +2,8 @@
 use Rattle.std.proofs.Common.{◌≡◌, ℕ, zero, suc, ◌+◌, ◌-◌, ◌*◌, ◌/◌, ◌<◌, ◌≤◌, ◌⊎◌, inl, inr, ◌↔◌, ℤ, pos, negsuc, ◌≤ℤ◌, true, false}
 use Rattle.std.proofs.Common.{nat_lt, refl, sym, ◌∙◌, subst, arith}
 use Rattle.std.specs.Prelude.{if◌then◌else◌, int_le}
-use Rattle.std.proofs.lemmas.Bool.{cases_Bool, cond_both, cond-true, cond-false, ltb-true, ltb-false, leb-true, leb-false, le-leb, lt-leb}
+use Rattle.std.proofs.lemmas.Bool.{cases_Bool, cases_lt, cond_both, cond-true, cond-false, ltb-true, ltb-false, leb-true, leb-false}
+use Rattle.std.proofs.lemmas.Bool.{le-leb, lt-leb}
 use Rattle.std.proofs.lemmas.Bool.{or_cases, or_from, or_parts, both_ways}
 use Rattle.std.proofs.lemmas.Int.{ints}
 use Rattle.atlas_model.specs.Boxes.{Sides, IsPositive}
@@ -65,6 +66,9 @@ passes-le t a b l = grind (arith, cases_Bool, passes-most, passes-true, passed-l
 pub band_mono : (o : Options) (a b : ℕ) → a ≤ b → band_of o a ≤ band_of o b
 unfolding band_of
 band_mono o a b l = grind (arith, step_of-le, passes-le)
+
+pub band_of-less : (o : Options) (a b : ℕ) → band_of o a < band_of o b → a < b
+band_of-less o a b l = elim (cases_lt a b) [ inl less ↦ less | inr more ↦ absurd (omega (arith, l, band_mono o b a more)) ]
 
 pub band_below : (o : Options) (n : ℕ) → band_of o n < 52
 unfolding band_of

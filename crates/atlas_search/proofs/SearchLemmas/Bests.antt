@@ -1,12 +1,12 @@
 -- The best of the boxes that a search was shown.
 use Rattle.std.proofs.Common.{◌≡◌, ℕ, ◌-◌, ◌/◌, ◌<◌, ◌≤◌, ◌⊎◌, min, append_assoc, not, Bool, true, false, List, [], ◌∷◌, ◌++◌, ℤ, pos}
-use Rattle.std.proofs.Common.{negsuc, FitsSigned, w32, refl, ap, sym, ◌∙◌, subst, inl, inr, arith}
+use Rattle.std.proofs.Common.{◌<ℤ◌, ◌≤ℤ◌, ◌↔◌, negsuc, FitsSigned, w32, refl, ap, sym, ◌∙◌, subst, inl, inr, arith}
 use Rattle.std.specs.List.{Contains}
 use Rattle.std.proofs.lemmas.Int.{ints}
 use Rattle.std.proofs.lemmas.List.Elements.{Contains-append_left, Contains-append_right, Contains-append_cases}
 use Rattle.atlas_search.specs.declared.best.Best.{Best}
 use Rattle.atlas_model.specs.declared.geometry.Rectangle.{Rectangle}
-use Rattle.atlas_search.specs.Bests.{IsAhead, IsKeptOf, HasSeen}
+use Rattle.atlas_search.specs.Bests.{IsAhead, IsFarther, IsKeptOf, HasSeen}
 use Rattle.atlas_model.specs.Boxes.{Sides, Box, box_sides, Fits}
 use Rattle.atlas_model.specs.Choice.{least_margin, HasEqualSide, ComesFirst}
 use Rattle.atlas_model.specs.Pixels.{natural, box_of, rectangle_of, sides_of}
@@ -169,6 +169,30 @@ module _ (s : Best) (is_large : Bool) (r : Sides) (shown : List Shown) (seen : H
       pub ranked-ahead : (at : ℕ) → IsAhead rank corner s
           → (rank < no_rank) × IsKeptOf is_large r (shown ++ shown_at (box_of a) at ∷ []) rank corner at
       ranked-ahead = kept-ahead (box_of a) rank corner (omega (arith, in_sight)) small_margin rank_is cornered fits_asked
+
+    -- It is longer on both sides than the request.
+    module _ (larger : IsFarther r (box_sides (box_of a))) (m : ℤ) (rank : ℕ)
+        (fits : (pos 0 ≤ℤ m) ↔ Fits (sides_of s.size) (box_sides (box_of a)))
+        (margin : pos 0 ≤ℤ m → m ≡ pos (least_margin (sides_of s.size) (box_of a)))
+        (ranked : pos 0 <ℤ m → rank ≡ rank_of s.is_large (natural m)) where
+      fits_larger : Fits (sides_of s.size) (box_sides (box_of a))
+      fits_larger = subst (λ (q : Sides). Fits q (box_sides (box_of a))) (sym asked) (omega (arith, larger.0), omega (arith, larger.1))
+
+      margin_larger : m ≡ pos (least_margin (sides_of s.size) (box_of a))
+      margin_larger = margin (fits.1 fits_larger)
+
+      rank_larger : rank ≡ rank_of s.is_large (natural m)
+      rank_larger =
+          let wide = ap (λ (q : Sides). q.width) asked in
+          let tall = ap (λ (q : Sides). q.height) asked in
+          ranked (omega (arith, ints, margin_larger, larger.0, larger.1, wide, tall))
+
+      pub larger-behind : (at : ℕ) → (IsAhead rank corner s → ⊥) → HasSeen s is_large r (shown ++ shown_at (box_of a) at ∷ [])
+      larger-behind = ranked-behind m rank fits_larger margin_larger rank_larger
+
+      pub larger-ahead : (at : ℕ) → IsAhead rank corner s
+          → (rank < no_rank) × IsKeptOf is_large r (shown ++ shown_at (box_of a) at ∷ []) rank corner at
+      larger-ahead = ranked-ahead m rank fits_larger margin_larger rank_larger
 
 comes-then : (a b c : Box) → ComesFirst a b → ComesFirst b c → ComesFirst a c
 comes-then a b c p q = grind arith

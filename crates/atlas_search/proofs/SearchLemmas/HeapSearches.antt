@@ -7,7 +7,7 @@ use Rattle.std.proofs.lemmas.List.{length-map}
 use Rattle.atlas_search.specs.declared.best.Best.{Best}
 use Rattle.atlas_search.specs.declared.cells.Cell.{Cell}
 use Rattle.atlas_model.specs.declared.geometry.Rectangle.{Rectangle}
-use Rattle.atlas_search.specs.Bests.{HasSeen}
+use Rattle.atlas_search.specs.Bests.{HasSeen, IsFarther}
 use Rattle.atlas_model.specs.Boxes.{Box, Sides, box_sides}
 use Rattle.atlas_model.specs.Choice.{ComesFirst}
 use Rattle.atlas_model.specs.Pixels.{box_of, natural}
@@ -15,7 +15,7 @@ use Rattle.atlas_search.specs.Forks.{IsIn, IsRouted, IsSplit, cell_of, high, low
 use Rattle.atlas_search.specs.Heaps.{Heap, IsHeap, members}
 use Rattle.atlas_search.specs.Heaps.Heap.{Top}
 use Rattle.atlas_search.specs.Items.{Item, item_at, item_box, item_sides, shown_items}
-use Rattle.atlas_search.specs.Lookups.{HasShown}
+use Rattle.atlas_search.specs.Lookups.{AreLarger, HasShown, HasShownTo}
 use Rattle.atlas_search.specs.Numbers.{no_slot, occurs}
 use Rattle.atlas_search.specs.Ranks.{corner_of}
 use Rattle.atlas_search.specs.Rectangles.{IsSolid}
@@ -26,7 +26,7 @@ use Rattle.atlas_search.proofs.SearchLemmas.Bests.{natural-most, seen-alike}
 use Rattle.atlas_search.proofs.SearchLemmas.Cells.{cell-is, high-cell, low-cell}
 use Rattle.atlas_search.proofs.SearchLemmas.Heaps.{HasTop, item-read, none-of, occurs-append, occurs-top, top-first, top-of}
 use Rattle.atlas_search.proofs.SearchLemmas.Routes.{routed-in}
-use Rattle.atlas_search.proofs.SearchLemmas.ShownItems.{shown-none, shown-over, shown-then, shown_items-in}
+use Rattle.atlas_search.proofs.SearchLemmas.ShownItems.{shown-none, shown-over, shown-then, shown_items-in, shown_to-then}
 
 -- ---- an entry
 
@@ -35,21 +35,22 @@ module _ (es : List Item) (e : Item) (at : ℕ) (is : e ≡ item_at es at) (a : 
   box_is = ap box_of area ∙ ap item_box is
 
   -- It is shown.
-  pub entry-looked : (s t : Best)
-      → ((is_large : Bool) (r : Sides) (shown : List Shown) → HasSeen s is_large r shown
+  pub entry-looked : (r : Sides) (s t : Best)
+      → ((is_large : Bool) (shown : List Shown) → HasSeen s is_large r shown
       → HasSeen t is_large r (shown ++ shown_at (box_of a) at ∷ []))
-      → HasShown es (at ∷ []) s t
-  entry-looked s t looked = λ is_large r shown seen.
-      subst (λ (b : Box). HasSeen t is_large r (shown ++ shown_at b at ∷ [])) box_is (looked is_large r shown seen)
+      → HasShownTo es r (at ∷ []) s t
+  entry-looked r s t looked = λ is_large shown seen.
+      subst (λ (b : Box). HasSeen t is_large r (shown ++ shown_at b at ∷ [])) box_is (looked is_large shown seen)
 
   module _ (up : ℕ) (c : Cell) (left right : Heap) (heap : IsHeap es up at (Top at left right)) (routed : IsRouted es c (Top at left right))
     where
-      -- It is isn fork: what hangs below it has its size, and comes no earlier.
-      pub entry-alike : (s t : Best) → e.is_fork ≡ false → HasShown es (at ∷ []) s t → HasShown es (members (Top at left right)) s t
-      entry-alike s t isn looked = λ is_large r shown seen.
+      -- It is no fork: what hangs below it has its size, and comes no earlier.
+      pub entry-alike : (r : Sides) (s t : Best) → e.is_fork ≡ false → HasShownTo es r (at ∷ []) s t
+          → HasShownTo es r (members (Top at left right)) s t
+      entry-alike r s t isn looked = λ is_large shown seen.
           let below = routed.2 (sym (ap (λ (x : Item). x.is_fork) is) ∙ isn) in
           seen-alike t is_large r shown (shown_items es (members left ++ members right)) (shown_at (item_box (item_at es at)) at)
-          (looked is_large r shown seen)
+          (looked is_large shown seen)
           (λ d has.
           let x = shown_items-in es (members left ++ members right) d has in
           let counts = occurs-append x.0 (members left) (members right) in
@@ -85,6 +86,25 @@ module _ (es : List Item) (e : Item) (at : ℕ) (is : e ≡ item_at es at) (a : 
           (over narrow corner cornered s equal past (members left ++ members right)
           (λ i has. omega (arith, has, occurs-append i (members left) (members right), occurs-top i at left right)))
 
+-- Entries of such sizes that come no earlier than one with this corner are passed over.
+shown-later : (es : List Item) (P : Sides → Type 0) (r : Sides) (b : Best) (at : ℕ) (a : Rectangle) → box_of a ≡ item_box (item_at es at)
+    → FitsSigned w32 a.min.x → (corner : ℕ) → corner ≡ corner_of (box_of a)
+    → ((is_large : Bool) (shown more : List Shown) (d : Box) → corner ≡ corner_of d → d.min.x < 4294967296
+    → HasSeen b is_large r shown → ((e : Shown) → Contains more e → P (box_sides e.box) × ComesFirst d e.box)
+    → HasSeen b is_large r (shown ++ more))
+    → (xs : List ℕ)
+    → ((i : ℕ) → 0 < occurs i xs → ComesFirst (item_box (item_at es at)) (item_box (item_at es i)) × P (item_sides (item_at es i)))
+    → HasShownTo es r xs b b
+shown-later es P r b at a is narrow corner cornered passed xs each = λ is_large shown seen.
+    passed is_large shown (shown_items es xs) (box_of a) cornered (let most = natural-most a.min.x narrow in omega (arith, most)) seen
+    (λ d has.
+    let i = shown_items-in es xs d has in
+    let e = each i.0 i.1 in (
+      subst (λ (q : Shown). P (box_sides q.box)) (sym i.2) e.1,
+      subst (λ (q : Shown). ComesFirst (box_of a) q.box) (sym i.2)
+          (subst (λ (q : Box). ComesFirst q (item_box (item_at es i.0))) (sym is) e.0),
+    ))
+
 -- ---- a heap
 
 -- Nothing is listed.
@@ -102,7 +122,7 @@ pub heap-outside : (es : List Item) (c : Cell) (top : ℕ) (h : Heap) → IsShow
     → ((is_large : Bool) (r : Sides) (shown more : List Shown) → HasSeen b is_large r shown
     → ((d : Shown) → Contains more d → IsIn (box_sides d.box) c) → HasSeen b is_large r (shown ++ more))
     → HasShown es (members h) b b
-heap-outside es c top h s b passed = λ is_large r shown seen.
+heap-outside es c top h s b passed = λ r is_large shown seen.
     passed is_large r shown (shown_items es (members h)) seen
     (λ d has.
     let x = shown_items-in es (members h) d has in
@@ -139,30 +159,24 @@ module _ {E : Type 0} (item : E → Item) (xs : List E) (c : Cell) (top : ℕ) (
       (shown as-top.up c heap-top.left heap-top.right as-top.heap as-top.routed)
 
   -- The top was shown, and none that hangs below it is better: each has a size of the cell, and comes no earlier than the top.
-  pub heap-ended : (before b : Best) → HasShown (map item xs) (top ∷ []) before b → (a : Rectangle) → a ≡ (item x).area
+  pub heap-ended : (r : Sides) (before b : Best) → HasShownTo (map item xs) r (top ∷ []) before b → (a : Rectangle) → a ≡ (item x).area
       → FitsSigned w32 a.min.x → (corner : ℕ) → corner ≡ corner_of (box_of a)
-      → ((is_large : Bool) (r : Sides) (shown more : List Shown) (d : Box) → corner ≡ corner_of d → d.min.x < 4294967296
+      → ((is_large : Bool) (shown more : List Shown) (d : Box) → corner ≡ corner_of d → d.min.x < 4294967296
       → HasSeen b is_large r shown → ((e : Shown) → Contains more e → IsIn (box_sides e.box) c × ComesFirst d e.box)
       → HasSeen b is_large r (shown ++ more))
-      → HasShown (map item xs) (members h) before b
-  heap-ended before b shown a area narrow corner cornered ended =
+      → HasShownTo (map item xs) r (members h) before b
+  heap-ended r before b shown a area narrow corner cornered ended =
       let es = map item xs in
       let t = heap-top in
       let below = members t.left ++ members t.right in
-      let box_is : box_of a ≡ item_box (item_at es top) = ap box_of area ∙ ap item_box heap-read in
-      subst (λ (g : Heap). HasShown es (members g) before b) (sym t.is)
-      (shown-then es (top ∷ []) below before b b shown (λ is_large r seen_before seen.
-      ended is_large r seen_before (shown_items es below) (box_of a) cornered
-      (let most = natural-most a.min.x narrow in omega (arith, most)) seen
-      (λ d has.
-      let i = shown_items-in es below d has in
-      let among : 0 < occurs i.0 (members (Top top t.left t.right)) =
-      omega (arith, i.1, occurs-append i.0 (members t.left) (members t.right), occurs-top i.0 top t.left t.right) in (
-        subst (λ (q : Shown). IsIn (box_sides q.box) c) (sym i.2)
-            (routed-in es c (Top top t.left t.right) s.is_cell as-top.routed i.0 among),
-        subst (λ (q : Shown). ComesFirst (box_of a) q.box) (sym i.2)
-            (subst (λ (q : Box). ComesFirst q (item_box (item_at es i.0))) (sym box_is)
-            (top-first es as-top.up top top t.left t.right as-top.heap i.0 among)),
+      subst (λ (g : Heap). HasShownTo es r (members g) before b) (sym t.is)
+      (shown_to-then es r (top ∷ []) below before b b shown
+      (shown-later es (λ s. IsIn s c) r b top a (ap box_of area ∙ ap item_box heap-read) narrow corner cornered ended below
+      (λ i has.
+      let among : 0 < occurs i (members (Top top t.left t.right)) =
+      omega (arith, has, occurs-append i (members t.left) (members t.right), occurs-top i top t.left t.right) in (
+        top-first es as-top.up top top t.left t.right as-top.heap i among,
+        routed-in es c (Top top t.left t.right) s.is_cell as-top.routed i among,
       ))))
 
   -- The top is a fork, and what hangs below it can be shown.
@@ -170,12 +184,12 @@ module _ {E : Type 0} (item : E → Item) (xs : List E) (c : Cell) (top : ℕ) (
   heap-fork isf = record { is = heap-read; is_fork = isf; whole = as-top }
 
   -- It is shown, and then what hangs below it.
-  pub heap-shown : (b one two : Best) → HasShown (map item xs) (top ∷ []) b one
+  pub heap-shown : (r : Sides) (b one two : Best) → HasShownTo (map item xs) r (top ∷ []) b one
       → HasShown (map item xs) (members heap-top.left ++ members heap-top.right) one two
-      → HasShown (map item xs) (members h) b two
-  heap-shown b one two first below =
-      subst (λ (g : Heap). HasShown (map item xs) (members g) b two) (sym heap-top.is)
-      (shown-then (map item xs) (top ∷ []) (members heap-top.left ++ members heap-top.right) b one two first below)
+      → HasShownTo (map item xs) r (members h) b two
+  heap-shown r b one two first below =
+      subst (λ (g : Heap). HasShownTo (map item xs) r (members g) b two) (sym heap-top.is)
+      (shown_to-then (map item xs) r (top ∷ []) (members heap-top.left ++ members heap-top.right) b one two first (below r))
 
 -- ---- a fork
 
@@ -232,6 +246,10 @@ module _ {E : Type 0} (item : E → Item) (xs : List E) (top : ℕ) (h : Heap) (
   pub list-solid : IsSolid (item x).area
   list-solid = subst (λ (e : Item). IsSolid e.area) (sym list-read) (s.exact top list-in)
 
+  -- The rectangle that was read.
+  pub list-solid_area : (a : Rectangle) → a ≡ (item x).area → IsSolid a
+  list-solid_area a area = subst IsSolid (sym area) list-solid
+
   -- The list as a heap with sizes of its top's cell.
   pub list-showable : FitsSigned w32 (item x).area.max.x → FitsSigned w32 (item x).area.max.y
       → (c : Cell) → c ≡ cell_of (item_sides (item x)) → IsShowable (map item xs) c top h
@@ -257,12 +275,40 @@ module _ {E : Type 0} (item : E → Item) (xs : List E) (top : ℕ) (h : Heap) (
       c (cell ∙ ap (λ (q : Rectangle). cell_of (box_sides (box_of q))) is)
 
   -- Nothing below the top is shown.
-  pub list-alone : (before after : Best)
-      → ((up : ℕ) (c : Cell) (l r : Heap) → IsHeap (map item xs) up top (Top top l r) → IsRouted (map item xs) c (Top top l r)
-      → HasShown (map item xs) (members (Top top l r)) before after)
-      → HasShown (map item xs) (members h) before after
-  list-alone before after shown =
-      subst (λ (g : Heap). HasShown (map item xs) (members g) before after) (sym list-top.is)
+  pub list-alone : (r : Sides) (before after : Best)
+      → ((up : ℕ) (c : Cell) (low high : Heap) → IsHeap (map item xs) up top (Top top low high)
+      → IsRouted (map item xs) c (Top top low high)
+      → HasShownTo (map item xs) r (members (Top top low high)) before after)
+      → HasShownTo (map item xs) r (members h) before after
+  list-alone r before after shown =
+      subst (λ (g : Heap). HasShownTo (map item xs) r (members g) before after) (sym list-top.is)
       (shown s.up (cell_of (item_sides (item_at (map item xs) top))) list-top.left list-top.right
       (subst (IsHeap (map item xs) s.up top) list-top.is s.heap)
       (subst (IsRouted (map item xs) (cell_of (item_sides (item_at (map item xs) top)))) list-top.is (s.sorted top list-in)))
+
+  -- The top is shown, which is larger than a request as all of them are.
+  pub list-looked : (r : Sides) (s t : Best) → AreLarger (map item xs) r (members h) → (a : Rectangle) → a ≡ (item x).area
+      → ((is_large : Bool) (r : Sides) (shown : List Shown) → IsFarther r (box_sides (box_of a)) → HasSeen s is_large r shown
+      → HasSeen t is_large r (shown ++ shown_at (box_of a) top ∷ []))
+      → HasShownTo (map item xs) r (top ∷ []) s t
+  list-looked r s t larger a area looked =
+      let same : box_of a ≡ item_box (item_at (map item xs) top) = ap box_of area ∙ ap item_box list-read in
+      entry-looked (map item xs) (item x) top list-read a area r s t (λ is_large shown.
+      looked is_large r shown (subst (λ (b : Box). IsFarther r (box_sides b)) (sym same) (larger top list-in)))
+
+  -- None is better: each is larger than the request, and comes no earlier than the top.
+  pub list-passed : (r : Sides) (b : Best) → AreLarger (map item xs) r (members h) → (a : Rectangle) → a ≡ (item x).area
+      → FitsSigned w32 a.min.x → (corner : ℕ) → corner ≡ corner_of (box_of a)
+      → ((is_large : Bool) (shown more : List Shown) (d : Box) → corner ≡ corner_of d → d.min.x < 4294967296
+      → HasSeen b is_large r shown → ((e : Shown) → Contains more e → IsFarther r (box_sides e.box) × ComesFirst d e.box)
+      → HasSeen b is_large r (shown ++ more))
+      → HasShownTo (map item xs) r (members h) b b
+  list-passed r b larger a area narrow corner cornered passed =
+      let es = map item xs in
+      let t = list-top in
+      shown-later es (IsFarther r) r b top a (ap box_of area ∙ ap item_box list-read) narrow corner cornered passed (members h)
+      (λ i has. (
+        top-first es s.up top top t.left t.right (subst (IsHeap es s.up top) t.is s.heap) i
+            (subst (λ (g : Heap). 0 < occurs i (members g)) t.is has),
+        larger i has,
+      ))

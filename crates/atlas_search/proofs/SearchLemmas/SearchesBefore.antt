@@ -13,7 +13,8 @@ use Rattle.atlas_model.specs.Boxes.{Sides}
 use Rattle.atlas_model.specs.Choice.{Options, class_of, HasEqualSide}
 use Rattle.atlas_search.specs.Items.{Item, item_at, item_box, item_sides, shown_item, shown_items}
 use Rattle.atlas_search.specs.Numbers.{occurs}
-use Rattle.atlas_search.specs.Lookups.{AreBelow, AreListed, HasAdded, HasSearched, IsBeyond, IsInColumn, IsInRow, IsItemBelow, IsSearch}
+use Rattle.atlas_search.specs.Lookups.{AreAfter, AreBelow, AreListed, HasAdded, HasSearched, IsBeyond, IsInColumn, IsInRow}
+use Rattle.atlas_search.specs.Lookups.{IsItemBelow, IsSearch}
 use Rattle.atlas_search.specs.Masks.{has, IsMarked}
 use Rattle.atlas_search.specs.Searches.{Shown}
 use Rattle.atlas_search.specs.Tables.{is_used_at}
@@ -59,6 +60,9 @@ true_lt m n h = grind (arith, nat_tests)
 le_true : (m n : ℕ) → m ≤ n → nat_le m n ≡ true
 le_true m n h = grind (arith, nat_tests)
 
+true_le : (m n : ℕ) → nat_le m n ≡ true → m ≤ n
+true_le m n h = grind (arith, nat_tests)
+
 pub and_of : (a b : Bool) → a ≡ true → b ≡ true → (a && b) ≡ true
 and_of a b e f = ap (λ t. t && b) e ∙ f
 
@@ -84,6 +88,9 @@ marked-below all below k j is h l = is j ∙ and_of _ _ h (lt_true j k l)
 
 pub below-marked : (all below : Mask) (k j : ℕ) → KeepsBelow all below k → IsMarked below j → IsMarked all j × (j < k)
 below-marked all below k j is h = let p = and_both _ _ (sym (is j) ∙ h) in (p.0, true_lt j k p.1)
+
+pub from-marked : (all from : Mask) (k j : ℕ) → KeepsFrom all from k → IsMarked from j → IsMarked all j × (k ≤ j)
+from-marked all from k j is h = let p = and_both _ _ (sym (is j) ∙ h) in (p.0, true_le k j p.1)
 
 -- A column more, of those that the marked rows have a list in.
 pub rows-next : (heads : List Link) (first column : ℕ) (rows here more : Mask)
@@ -150,12 +157,16 @@ module _ (o : Options) (heads : List Link) (es : List Item) (own : Place) (r : S
   pub added-beyond : (used from below : Mask) (s t : Best)
       → ((i j : ℕ) → i < 52 → own.column + 1 ≤ j → j < 52 → is_used_at heads (52 * i + j) ≡ true → IsMarked used i)
       → KeepsFrom used from (own.row + 1) → KeepsBelow from below end
-      → HasAdded o es end r (IsBeyond below (own.column + 1) end) s t → HasAdded o es end r IsApart s t
+      → (((i : ℕ) → IsMarked below i → AreAfter o r i (own.column + 1)) → HasAdded o es end r (IsBeyond below (own.column + 1) end) s t)
+      → HasAdded o es end r IsApart s t
   added-beyond used from below s t each f b h =
       added-weaker o es end r heads a (IsBeyond below (own.column + 1) end) IsApart s t
       (λ i j hi hj full v.
       let marked = marked-from used from (own.row + 1) i f (each i j hi (omega (arith, v.1)) hj full) (omega (arith, v.0)) in
-      (marked-below from below end i b marked v.2.0, omega (arith, v.1), v.2.1)) h
+      (marked-below from below end i b marked v.2.0, omega (arith, v.1), v.2.1))
+      (h (λ i m.
+      let past = (from-marked used from (own.row + 1) i f (below-marked from below end i b m).0).1 in
+      (omega (arith, past, search.row), omega (arith, search.column))))
 
   -- All of them.
   added-all : (in_row in_column : Mask) (s t u v : Best) → KeepsBelow columns in_row end → KeepsBelow rows in_column end

@@ -5,6 +5,7 @@ use crate::atlas_model::{Rectangle, Size};
 use crate::atlas_search::cells::Cell;
 use crate::atlas_search::choice::margin_in;
 use crate::atlas_search::link::Link;
+use wollemigo_support::prelude::CastUnsigned;
 
 /// The free box that a request takes, and its entry.
 #[derive(Clone, Copy)]
@@ -58,13 +59,19 @@ fn flip_of(is_large: bool) -> u32 {
     }
 }
 
+// The rank of a box with this least margin, if that is above 0.
+#[inline]
+fn rank_above_zero(flip: u32, margin: i32) -> u32 {
+    margin.cast_unsigned() ^ flip
+}
+
 // The rank of a box with this least margin.
 #[inline]
 fn rank(flip: u32, margin: i32) -> u32 {
     if margin == 0 {
         return 0;
     }
-    margin as u32 ^ flip
+    rank_above_zero(flip, margin)
 }
 
 // How great the least margin of a box may be that is better than the best of this rank. For a large request that doesn't end, unless there
@@ -148,6 +155,24 @@ impl Best {
         false
     }
 
+    /// Shows the box of an entry, which has this corner and is longer on both sides than the request.
+    #[inline(always)]
+    pub fn look_larger(&mut self, rectangle: Rectangle, corner: u64, at: Link) {
+        let rank = rank_above_zero(self.flip, margin_in(rectangle, self.size));
+        if self.is_beaten_by(rank, corner) {
+            *self = Best {
+                size: self.size,
+                is_large: self.is_large,
+                flip: self.flip,
+                rank,
+                corner,
+                bar: NO_CORNER,
+                reach: if self.is_large { NO_REACH } else { rank },
+                at,
+            };
+        }
+    }
+
     /// Whether the best has an equal side.
     #[inline]
     #[must_use]
@@ -161,6 +186,14 @@ impl Best {
     #[must_use]
     pub fn passes(&self, corner: u64) -> bool {
         self.bar <= corner
+    }
+
+    /// Whether the best leaves over 1 or nothing and begins at this corner or before it: of boxes that are longer on both sides than the
+    /// request, none that begins there or later is better.
+    #[inline(always)]
+    #[must_use]
+    pub fn passes_larger(&self, corner: u64) -> bool {
+        self.reach <= 1 && self.corner <= corner
     }
 
     /// Whether the request may fit a box of a size in this cell: both of its sides are before the ends.

@@ -7,6 +7,11 @@ use crate::atlas_search::cells::Cell;
 use crate::atlas_search::cut::exact_size;
 use crate::atlas_search::link::{Link, NO_SLOT};
 use crate::atlas_search::search::Entry;
+use leaving::leave;
+use sorting::{is_fork_before, sort_below, sort_in};
+
+mod leaving;
+mod sorting;
 
 /// An entry whose links can be written.
 pub trait Linked: Entry {
@@ -163,75 +168,6 @@ fn close<E: Linked>(entries: &mut [E], at: Link, up: Link) -> Link {
     meld(entries, links.left, links.right, up)
 }
 
-// The top of a heap becomes a fork, if it is none: what hangs below it, melded, hangs in the half of its own size.
-#[inline(always)]
-fn make_fork<E: Linked>(entries: &mut [E], cell: Cell, top: Link) {
-    if is_fork(entries, top) {
-        return;
-    }
-    let none = Link::NONE;
-    let up = links_at(entries, top).up;
-    let size = size_at(entries, top);
-    let rest = close(entries, top, top);
-    if cell.halves().low.is_below_ends(size) {
-        put(entries, top, up, rest, none, true);
-    } else {
-        put(entries, top, up, none, rest, true);
-    }
-}
-
-// Two entries, of which the second doesn't come first.
-#[derive(Clone, Copy)]
-struct Pair {
-    first: Link,
-    rest: Link,
-}
-
-// These two, in order.
-#[inline(always)]
-fn in_order<E: Entry>(entries: &[E], one: Link, other: Link) -> Pair {
-    if corner_at(entries, other) < corner_at(entries, one) {
-        Pair {
-            first: other,
-            rest: one,
-        }
-    } else {
-        Pair {
-            first: one,
-            rest: other,
-        }
-    }
-}
-
-// An entry joins a heap by its size. Answers the top, which hangs below `up`.
-#[inline]
-fn sort_in<E: Linked>(entries: &mut [E], cell: Cell, up: Link, top: Link, at: Link) -> Link {
-    let none = Link::NONE;
-    if top.number == NO_SLOT {
-        put(entries, at, up, none, none, false);
-        return at;
-    }
-    if is_alike(entries, top, at) {
-        let under = links_at(entries, top).up;
-        put(entries, at, under, none, none, false);
-        return meld(entries, top, at, up);
-    }
-    make_fork(entries, cell, top);
-    let links = links_at(entries, top);
-    let Pair { first, rest } = in_order(entries, top, at);
-    let halves = cell.halves();
-    if halves.low.is_below_ends(size_at(entries, rest)) {
-        let left = sort_in(entries, halves.low, first, links.left, rest);
-        move_below(entries, links.right, first);
-        put(entries, first, up, left, links.right, true);
-    } else {
-        let right = sort_in(entries, halves.high, first, links.right, rest);
-        move_below(entries, links.left, first);
-        put(entries, first, up, links.left, right, true);
-    }
-    first
-}
-
 // Whether an entry, if there is one, has nothing on its left, comes before another one, and is alike.
 #[inline(always)]
 fn is_place<E: Entry>(entries: &[E], near: Link, at: Link) -> bool {
@@ -249,56 +185,35 @@ fn is_place<E: Entry>(entries: &[E], near: Link, at: Link) -> bool {
 #[inline(always)]
 pub fn push<E: Linked>(entries: &mut [E], tag: Link, top: Link, near: Link, at: Link) -> Link {
     let none = Link::NONE;
-    if top.number != NO_SLOT && is_place(entries, near, at) {
+    let size = size_at(entries, at);
+    if top.number == NO_SLOT {
+        put(entries, at, tag, none, none, false);
+        return at;
+    }
+    if is_place(entries, near, at) {
         put(entries, at, near, none, none, false);
         let links = links_at(entries, near);
         relink(entries, near, links.up, at, links.right);
         return top;
     }
-    let cell = Cell::around(size_at(entries, at));
+    if is_alike(entries, top, at) {
+        put(entries, at, tag, none, none, false);
+        return meld(entries, top, at, tag);
+    }
+    let cell = Cell::around(size);
+    if is_fork_before(entries, top, at) {
+        sort_below(
+            entries,
+            top,
+            at,
+            cell.left,
+            cell.right,
+            cell.top,
+            cell.bottom,
+        );
+        return top;
+    }
     sort_in(entries, cell, tag, top, at)
-}
-
-// Whether the left one of two entries comes first: it is there, and the right one isn't, or comes no earlier.
-#[inline(always)]
-fn is_left_first<E: Entry>(entries: &[E], left: Link, right: Link) -> bool {
-    if left.number == NO_SLOT {
-        return false;
-    }
-    if right.number == NO_SLOT {
-        return true;
-    }
-    corner_at(entries, left) <= corner_at(entries, right)
-}
-
-// What hangs below an entry becomes one heap, which hangs below `up`. Of a fork's two sides the top that comes first comes up.
-#[inline]
-fn leave<E: Linked>(entries: &mut [E], at: Link, up: Link) -> Link {
-    if !is_fork(entries, at) {
-        return close(entries, at, up);
-    }
-    let links = links_at(entries, at);
-    if is_left_first(entries, links.left, links.right) {
-        if links.right.number == NO_SLOT && !is_fork(entries, links.left) {
-            set_up(entries, links.left, up);
-            return links.left;
-        }
-        let rest = leave(entries, links.left, links.left);
-        move_below(entries, links.right, links.left);
-        put(entries, links.left, up, rest, links.right, true);
-        return links.left;
-    }
-    if links.right.number == NO_SLOT {
-        return links.right;
-    }
-    if links.left.number == NO_SLOT && !is_fork(entries, links.right) {
-        set_up(entries, links.right, up);
-        return links.right;
-    }
-    let rest = leave(entries, links.right, links.right);
-    move_below(entries, links.left, links.right);
-    put(entries, links.right, up, links.left, rest, true);
-    links.right
 }
 
 /// An entry leaves its heap. Answers the top of what was below it, which took its place. A tag above the heap's top isn't

@@ -97,17 +97,35 @@ fn show_within<E: Entry>(entries: &[E], at: Link, cell: Cell, best: &mut Best) {
     }
 }
 
-// Shows a list that begins with this to a search. Where it is of larger sizes alone, it may be enough to look at its first entry.
+// Shows a list that begins with this to a search.
 #[inline(always)]
-fn show_list<E: Entry>(entries: &[E], top: Link, is_larger: bool, best: &mut Best) {
+fn show_list<E: Entry>(entries: &[E], top: Link, best: &mut Best) {
     if top.number as usize >= entries.len() {
         return;
     }
     let entry = &entries[top.number as usize];
     if show_entry(entry, top, best) {
-        let area = entry.rectangle();
+        let cell = Cell::around(exact_size(entry.rectangle()));
+        show_halves(entries, entry, cell, best);
+    }
+}
+
+// Shows a list of sizes that are larger than the request's, both sides, to a search. It may be enough to look at its first entry.
+#[inline(always)]
+fn show_larger<E: Entry>(entries: &[E], top: Link, best: &mut Best) {
+    if top.number as usize >= entries.len() {
+        return;
+    }
+    let entry = &entries[top.number as usize];
+    let area = entry.rectangle();
+    let corner = corner(area);
+    if best.passes_larger(corner) {
+        return;
+    }
+    best.look_larger(area, corner, top);
+    if entry.is_fork() {
         let cell = Cell::around(exact_size(area));
-        if is_larger && best.ends_in(cell, corner(area)) {
+        if best.ends_in(cell, corner) {
             return;
         }
         show_halves(entries, entry, cell, best);
@@ -120,10 +138,9 @@ fn search_list<A: Allocator, E: Entry>(
     entries: &[E],
     table: &Table<A>,
     place: Place,
-    is_larger: bool,
     best: &mut Best,
 ) {
-    show_list(entries, table.stored_head(place), is_larger, best);
+    show_list(entries, table.stored_head(place), best);
 }
 
 // Shows lists of a row to a search.
@@ -133,12 +150,26 @@ fn search_row<A: Allocator, E: Entry>(
     table: &Table<A>,
     row: usize,
     columns: Mask,
-    is_larger: bool,
     best: &mut Best,
 ) {
     let mut left = columns;
     while let Some(column) = left.take_first() {
-        search_list(entries, table, Place { row, column }, is_larger, best);
+        search_list(entries, table, Place { row, column }, best);
+    }
+}
+
+// Shows lists of a row that lie to the right of a request's own and below it to a search.
+#[inline(always)]
+fn search_larger<A: Allocator, E: Entry>(
+    entries: &[E],
+    table: &Table<A>,
+    row: usize,
+    columns: Mask,
+    best: &mut Best,
+) {
+    let mut left = columns;
+    while let Some(column) = left.take_first() {
+        show_larger(entries, table.stored_head(Place { row, column }), best);
     }
 }
 
@@ -153,7 +184,7 @@ fn search_column<A: Allocator, E: Entry>(
 ) {
     let mut left = rows;
     while let Some(row) = left.take_first() {
-        search_list(entries, table, Place { row, column }, false, best);
+        search_list(entries, table, Place { row, column }, best);
     }
 }
 
@@ -198,7 +229,7 @@ fn search_rows<A: Allocator, E: Entry>(
     while let Some(row) = left.take_first() {
         let columns = table.row(row).from(first).below(end);
         let near = columns_near(options, row, columns, best);
-        search_row(entries, table, row, near, true, best);
+        search_larger(entries, table, row, near, best);
     }
 }
 
@@ -224,7 +255,7 @@ fn search_before<A: Allocator, E: Entry>(
     end: usize,
     best: &mut Best,
 ) -> bool {
-    search_row(entries, table, own.row, columns.below(end), false, best);
+    search_row(entries, table, own.row, columns.below(end), best);
     search_column(entries, table, own.column, rows.below(end), best);
     if best.has_equal_side() {
         return false;
@@ -248,7 +279,7 @@ fn search_few<A: Allocator, E: Entry>(
         let row = list / BANDS;
         let column = list % BANDS;
         if row.max(column) < end {
-            show_list(entries, table.head(Place { row, column }), false, best);
+            show_list(entries, table.head(Place { row, column }), best);
         }
     }
 }

@@ -13,9 +13,9 @@ fn bad_line(text: &[u8]) -> u64 {
 
 #[test]
 fn names_the_bad_line() {
-    assert_eq!(bad_line(b"glyph 1\nchecker 8000000"), 0);
+    assert_eq!(bad_line(b"glyph 1\ncolumn 8000000"), 0);
     assert_eq!(bad_line(b"glyph 1\nglyph 0\n"), 2);
     assert_eq!(bad_line(b"glyph 1\n\nglyph 1\n"), 2);
-    assert_eq!(bad_line(b"checker 8000001\n"), 1);
+    assert_eq!(bad_line(b"column 8000001\n"), 1);
     assert_eq!(bad_line(b"sprite 1\nsearch 1\ngrowth  1\n"), 3);
 }

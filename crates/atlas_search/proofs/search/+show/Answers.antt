@@ -107,14 +107,14 @@ show_within-show_below-requires g t c κs within = (
 )
 
 pub show_within-returns-then-show_entry : goal.show_within-returns-then-show_entry
-show_within-returns-then-show_entry g t c = λ h s.
+show_within-returns-then-show_entry g t c = λ h s q.
     let item = g.E.Entry.item in
     let xs = c.args.entries.now in
     let x = c.index-entries-at.result in
     let f = c.show_entry.ensures.fork c.if-show_entry.true in
-    heap-shown item xs c.args.cell c.args.at.number h s c.if-at-entries.false x c.index-entries-at.is
+    heap-shown item xs c.args.cell c.args.at.number h s c.if-at-entries.false x c.index-entries-at.is q
     c.args.best.now c.show_entry.new.best c.show_below.new.best
-    (f.1 (map item xs) (heap-read item xs c.args.cell c.args.at.number h s c.if-at-entries.false x c.index-entries-at.is))
+    (f.1 (map item xs) (heap-read item xs c.args.cell c.args.at.number h s c.if-at-entries.false x c.index-entries-at.is) q)
     (c.show_below.ensures _ _ _
     (heap-fork item xs c.args.cell c.args.at.number h s c.if-at-entries.false x c.index-entries-at.is f.0))
 

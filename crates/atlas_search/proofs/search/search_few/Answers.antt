@@ -45,7 +45,7 @@ loop-i-preserved g c o r a =
           c.loop-i.best w.show_list.new.best before
           (added-list o es c.args.end r heads a place (omega (arith, row, c.requires.end)) (omega arith) (row, column)
           (members list.0) list.2
-          c.loop-i.best w.show_list.new.best shown))
+          c.loop-i.best w.show_list.new.best (shown r)))
       | else-max-end w ↦
           subst (λ (b : Best). HasAdded o es c.args.end r (IsAmong heads c.args.end (c.loop-i.i + 1)) c.args.best.now b) (sym w.best-is)
           (few-passed o es c.args.end r heads a c.requires.end c.loop-i.i n (c.list_of_few-list.ensures c.requires.grown) c.args.best.now

@@ -20,4 +20,4 @@ returns g c o end r a w =
     let list = showable o es end r c.args.table.now.heads a c.args.place c.requires.row c.requires.column in
     let shown = c.show_list.ensures list.0 (subst (λ (l : Link). IsListShowable es l.number list.0) (sym c.stored_head.ensures) list.1) in
     added-list o es end r c.args.table.now.heads a c.args.place c.requires.row c.requires.column w (members list.0) list.2 c.args.best.now
-    c.show_list.new.best shown
+    c.show_list.new.best (shown r)

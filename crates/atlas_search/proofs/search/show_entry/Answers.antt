@@ -15,21 +15,21 @@ returns-then-look-clause-all g c = λ _ es is up d l r heap routed.
     entry-then_over es (g.E.Entry.item c.args.entry.now) c.args.at.number is c.rectangle-area.result c.rectangle-area.ensures up d l r heap
     routed
     (search rules) c.corner-corner.result c.corner-corner.ensures.corner c.args.best.now c.look.new.self passed.0 (omega (arith, passed.1))
-    (entry-looked es (g.E.Entry.item c.args.entry.now) c.args.at.number is c.rectangle-area.result c.rectangle-area.ensures
-    c.args.best.now c.look.new.self c.look.ensures.seen)
+    (λ q. entry-looked es (g.E.Entry.item c.args.entry.now) c.args.at.number is c.rectangle-area.result c.rectangle-area.ensures q
+    c.args.best.now c.look.new.self (λ is_large. c.look.ensures.seen is_large q))
 
 pub returns-clause-fork : goal.returns-clause-fork
 returns-clause-fork g c = λ isf. (
   sym c.is_fork.ensures ∙ isf,
-  λ es is.
-      entry-looked es (g.E.Entry.item c.args.entry.now) c.args.at.number is c.rectangle-area.result c.rectangle-area.ensures
-      c.args.best.now c.look.new.self c.look.ensures.seen,
+  λ es is q.
+      entry-looked es (g.E.Entry.item c.args.entry.now) c.args.at.number is c.rectangle-area.result c.rectangle-area.ensures q
+      c.args.best.now c.look.new.self (λ is_large. c.look.ensures.seen is_large q),
 )
 
 pub returns-clause-all : goal.returns-clause-all
-returns-clause-all g c = λ isn es is up d l r heap routed.
+returns-clause-all g c = λ isn es is up d l r heap routed q.
     entry-alike es (g.E.Entry.item c.args.entry.now) c.args.at.number is c.rectangle-area.result c.rectangle-area.ensures up d l r heap
-    routed
+    routed q
     c.args.best.now c.look.new.self (sym c.is_fork.ensures ∙ isn)
-    (entry-looked es (g.E.Entry.item c.args.entry.now) c.args.at.number is c.rectangle-area.result c.rectangle-area.ensures
-    c.args.best.now c.look.new.self c.look.ensures.seen)
+    (entry-looked es (g.E.Entry.item c.args.entry.now) c.args.at.number is c.rectangle-area.result c.rectangle-area.ensures q
+    c.args.best.now c.look.new.self (λ is_large. c.look.ensures.seen is_large q))

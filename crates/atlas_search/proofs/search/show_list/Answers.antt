@@ -1,10 +1,9 @@
-use Rattle.std.proofs.Common.{map, ap, sym, ◌∙◌, subst, arith, rules}
+use Rattle.std.proofs.Common.{map, ap, ◌∙◌, arith, rules}
 use Rattle.std.proofs.lemmas.List.{length-map}
 use Rattle.atlas_search.specs.Forks.{cell_of}
-use Rattle.atlas_search.specs.Rectangles.{IsSolid}
-use Rattle.atlas_search.proofs.SearchLemmas.HeapSearches.{heap-empty, heap-ended, heap-fork, heap-shown}
+use Rattle.atlas_search.proofs.SearchLemmas.HeapSearches.{heap-empty, heap-fork, heap-shown}
 use Rattle.atlas_search.proofs.SearchLemmas.HeapSearches.{list-alone, list-as_heap, list-read}
-use Rattle.atlas_search.proofs.SearchLemmas.HeapSearches.{list-solid}
+use Rattle.atlas_search.proofs.SearchLemmas.HeapSearches.{list-solid, list-solid_area}
 use Rattle.atlas_search.proofs.search.show_list.Goals as goal
 
 pub returns-then-top-entries : goal.returns-then-top-entries
@@ -14,17 +13,8 @@ returns-then-top-entries g c = λ h s.
 
 pub exact_size-requires : goal.exact_size-requires
 exact_size-requires g c =
-    subst IsSolid (sym c.rectangle-area.ensures)
-    (list-solid g.E.Entry.item c.args.entries.now c.args.top.number c.requires.0 c.requires.1 c.if-top-entries.false
-    c.index-entries-top.result
-    c.index-entries-top.is)
-
-pub corner-requires : goal.corner-requires
-corner-requires g c =
-    (subst IsSolid (sym c.rectangle-area.ensures)
-    (list-solid g.E.Entry.item c.args.entries.now c.args.top.number c.requires.0 c.requires.1 c.if-top-entries.false
-    c.index-entries-top.result
-    c.index-entries-top.is)).unsigned
+    list-solid_area g.E.Entry.item c.args.entries.now c.args.top.number c.requires.0 c.requires.1 c.if-top-entries.false
+    c.index-entries-top.result c.index-entries-top.is c.rectangle.result c.rectangle.ensures
 
 pub show_entry-requires : goal.show_entry-requires
 show_entry-requires g c =
@@ -35,7 +25,7 @@ show_entry-requires g c =
 pub show_halves-requires : goal.show_halves-requires
 show_halves-requires g c =
     let s = list-as_heap g.E.Entry.item c.args.entries.now c.args.top.number c.requires.0 c.requires.1 c.if-top-entries.false
-    c.index-entries-top.result c.index-entries-top.is c.rectangle-area.result c.rectangle-area.ensures (search rules) (search rules)
+    c.index-entries-top.result c.index-entries-top.is c.rectangle.result c.rectangle.ensures (search rules) (search rules)
     c.around-cell.result (c.around-cell.ensures ∙ ap cell_of c.exact_size.ensures.sides) in (
       _,
       _,
@@ -44,39 +34,26 @@ show_halves-requires g c =
           c.index-entries-top.result c.index-entries-top.is (c.show_entry.ensures.fork c.if-show_entry.true).0,
     )
 
-pub returns-then-ends_in : goal.returns-then-ends_in
-returns-then-ends_in g c = λ h l.
+pub returns-then-show_entry : goal.returns-then-show_entry
+returns-then-show_entry g c = λ h l q.
     let xs = c.args.entries.now in
     let x = c.index-entries-top.result in
     let s = list-as_heap g.E.Entry.item c.args.entries.now c.args.top.number h l c.if-top-entries.false
-    c.index-entries-top.result c.index-entries-top.is c.rectangle-area.result c.rectangle-area.ensures (search rules) (search rules)
-    c.around-cell.result (c.around-cell.ensures ∙ ap cell_of c.exact_size.ensures.sides) in
-    heap-ended g.E.Entry.item xs c.around-cell.result c.args.top.number h s c.if-top-entries.false x c.index-entries-top.is
-    c.args.best.now c.show_entry.new.best
-    ((c.show_entry.ensures.fork c.if-show_entry.true).1 (map g.E.Entry.item xs)
-    (list-read g.E.Entry.item xs c.args.top.number h l c.if-top-entries.false x c.index-entries-top.is))
-    c.rectangle-area.result c.rectangle-area.ensures (search rules) c.corner.result c.corner.ensures.corner
-    (c.ends_in.ensures c.if-ends_in.true)
-
-pub returns-else-is_larger : goal.returns-else-is_larger
-returns-else-is_larger g c = λ h l.
-    let xs = c.args.entries.now in
-    let x = c.index-entries-top.result in
-    let s = list-as_heap g.E.Entry.item c.args.entries.now c.args.top.number h l c.if-top-entries.false
-    c.index-entries-top.result c.index-entries-top.is c.rectangle-area.result c.rectangle-area.ensures (search rules) (search rules)
+    c.index-entries-top.result c.index-entries-top.is c.rectangle.result c.rectangle.ensures (search rules) (search rules)
     c.around-cell.result (c.around-cell.ensures ∙ ap cell_of c.exact_size.ensures.sides) in
     let f = c.show_entry.ensures.fork c.if-show_entry.true in
-    heap-shown g.E.Entry.item xs c.around-cell.result c.args.top.number h s c.if-top-entries.false x c.index-entries-top.is
+    heap-shown g.E.Entry.item xs c.around-cell.result c.args.top.number h s c.if-top-entries.false x c.index-entries-top.is q
     c.args.best.now c.show_entry.new.best c.show_halves.new.best
     (f.1 (map g.E.Entry.item xs)
-    (list-read g.E.Entry.item xs c.args.top.number h l c.if-top-entries.false x c.index-entries-top.is))
+    (list-read g.E.Entry.item xs c.args.top.number h l c.if-top-entries.false x c.index-entries-top.is) q)
     (c.show_halves.ensures _ _ _ (heap-fork g.E.Entry.item xs c.around-cell.result c.args.top.number h s c.if-top-entries.false x
     c.index-entries-top.is f.0))
 
 pub returns-else-show_entry : goal.returns-else-show_entry
-returns-else-show_entry g c = λ h s.
+returns-else-show_entry g c = λ h s q.
     let xs = c.args.entries.now in
-    list-alone g.E.Entry.item xs c.args.top.number h s c.if-top-entries.false c.index-entries-top.result c.index-entries-top.is
+    list-alone g.E.Entry.item xs c.args.top.number h s c.if-top-entries.false c.index-entries-top.result c.index-entries-top.is q
     c.args.best.now c.show_entry.new.best
-    (c.show_entry.ensures.all c.if-show_entry.false (map g.E.Entry.item xs)
-    (list-read g.E.Entry.item xs c.args.top.number h s c.if-top-entries.false c.index-entries-top.result c.index-entries-top.is))
+    (λ up d l r heap routed. c.show_entry.ensures.all c.if-show_entry.false (map g.E.Entry.item xs)
+    (list-read g.E.Entry.item xs c.args.top.number h s c.if-top-entries.false c.index-entries-top.result c.index-entries-top.is)
+    up d l r heap routed q)

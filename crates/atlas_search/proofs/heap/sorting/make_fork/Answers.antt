@@ -5,7 +5,7 @@ use Rattle.atlas_search.specs.Items.{item_sides, item_at}
 use Rattle.atlas_search.proofs.HeapLemmas.Forking.{fork-is, forks-high, forks-low, sort-inside, sort-parts, sort-solid, sort-top}
 use Rattle.atlas_search.proofs.HeapLemmas.Forking.{sort-within}
 use Rattle.atlas_search.proofs.SearchLemmas.Cells.{in-high, in-low}
-use Rattle.atlas_search.proofs.heap.make_fork.Goals as goal
+use Rattle.atlas_search.proofs.heap.sorting.make_fork.Goals as goal
 
 pub is_fork-requires : goal.is_fork-requires
 is_fork-requires g c =

@@ -1,0 +1,88 @@
+// Erased from crates/atlas_search/src/heap/leaving.rt by rust/erase: don't edit.
+//! An entry leaves a heap: what hung below it becomes one heap.
+
+use crate::atlas_search::heap::{
+    close, corner_at, is_fork, links_at, move_below, put, set_up, Linked,
+};
+use crate::atlas_search::link::{Link, NO_SLOT};
+use crate::atlas_search::search::Entry;
+
+// Whether the left one of two entries comes first: it is there, and the right one isn't, or comes no earlier.
+#[inline(always)]
+fn is_left_first<E: Entry>(entries: &[E], left: Link, right: Link) -> bool {
+    if left.number == NO_SLOT {
+        return false;
+    }
+    if right.number == NO_SLOT {
+        return true;
+    }
+    corner_at(entries, left) <= corner_at(entries, right)
+}
+
+// Two heaps hung below a fork that goes. The top that comes first, the left one if `is_left`, takes its place below `up` and is a fork, and
+// what hung below that one goes on in the same way.
+#[inline(never)]
+fn lift<E: Linked>(entries: &mut [E], up: Link, left: Link, right: Link, is_left: bool) {
+    if is_left {
+        if right.number == NO_SLOT && !is_fork(entries, left) {
+            set_up(entries, left, up);
+            return;
+        }
+        move_below(entries, right, left);
+        if !is_fork(entries, left) {
+            let rest = close(entries, left, left);
+            put(entries, left, up, rest, right, true);
+            return;
+        }
+        let below = links_at(entries, left);
+        let is_next_left = is_left_first(entries, below.left, below.right);
+        let next = if is_next_left {
+            below.left
+        } else {
+            below.right
+        };
+        put(entries, left, up, next, right, true);
+        if next.number == NO_SLOT {
+            return;
+        }
+        lift(entries, left, below.left, below.right, is_next_left);
+    } else {
+        if left.number == NO_SLOT && !is_fork(entries, right) {
+            set_up(entries, right, up);
+            return;
+        }
+        move_below(entries, left, right);
+        if !is_fork(entries, right) {
+            let rest = close(entries, right, right);
+            put(entries, right, up, left, rest, true);
+            return;
+        }
+        let below = links_at(entries, right);
+        let is_next_left = is_left_first(entries, below.left, below.right);
+        let next = if is_next_left {
+            below.left
+        } else {
+            below.right
+        };
+        put(entries, right, up, left, next, true);
+        if next.number == NO_SLOT {
+            return;
+        }
+        lift(entries, right, below.left, below.right, is_next_left);
+    }
+}
+
+// What hangs below an entry becomes one heap, which hangs below `up`. Of a fork's two sides the top that comes first comes up.
+#[inline]
+pub(crate) fn leave<E: Linked>(entries: &mut [E], at: Link, up: Link) -> Link {
+    if !is_fork(entries, at) {
+        return close(entries, at, up);
+    }
+    let links = links_at(entries, at);
+    let is_left = is_left_first(entries, links.left, links.right);
+    let first = if is_left { links.left } else { links.right };
+    if first.number != NO_SLOT {
+        lift(entries, up, links.left, links.right, is_left);
+    }
+    first
+}
