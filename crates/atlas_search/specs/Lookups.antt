@@ -1,5 +1,5 @@
 -- The search through lists of entries: what it needs, and what it answers. No public clause cites this module.
-use Rattle.std.specs.Prelude.{ℕ, ◌+◌, ◌*◌, ◌≡◌, ◌<◌, ◌≤◌, ◌==◌, ◌⊎◌, ◌++◌, Bool, true, false, List, Contains}
+use Rattle.std.specs.Prelude.{ℕ, ◌+◌, ◌*◌, ◌≡◌, ◌≢◌, ◌<◌, ◌≤◌, ◌==◌, ◌⊎◌, ◌++◌, Bool, true, false, List, Contains}
 use Rattle.std.specs.Prelude.{length, pos}
 use Rattle.atlas_search.specs.declared.bands.Borders.{Borders}
 use Rattle.atlas_search.specs.declared.bands.Place.{Place}
@@ -15,8 +15,9 @@ use Rattle.atlas_model.specs.Choice.{Options, AreValid, class_of}
 use Rattle.atlas_search.specs.Items.{Item, item_at, item_box, item_sides, shown_item, shown_items}
 use Rattle.atlas_search.specs.Rectangles.{IsSolid}
 use Rattle.atlas_search.specs.Numbers.{occurs}
-use Rattle.atlas_search.specs.Masks.{has, IsMarked}
+use Rattle.atlas_search.specs.Masks.{KeepsBelow, has, IsMarked}
 use Rattle.atlas_model.specs.Pixels.{box_of}
+use Rattle.atlas_search.specs.Ranks.{no_rank}
 use Rattle.atlas_search.specs.Searches.{Shown, shown_at, IsBestShown}
 use Rattle.atlas_search.specs.Tables.{head_of, is_used_at}
 
@@ -100,6 +101,13 @@ pub record IsBestBelow (o : Options) (es : List Item) (end : ℕ) (r : Sides) (f
   pub best : IsBestShown (class_of o r == 2) r shown (shown_at (box_of found.rectangle) found.at.number)
   pub standing : IsStanding es found
 
+-- A search of the free entries with both bands before `end` found this one.
+pub record HasFound (o : Options) (es : List Item) (end : ℕ) (r : Sides) (at : Link) : Type 0 where
+  pub search : Best
+  pub searched : HasSearched o es end r search
+  pub is_at : at ≡ search.at
+  pub some : search.rank ≢ no_rank
+
 -- The boxes are those of the free entries.
 pub record AreFreeItems (es : List Item) (free : List Box) : Type 0 where
   pub of_item : (b : Box) → Contains free b → (i : ℕ) × ((item_at es i).is_free ≡ true) × (item_box (item_at es i) ≡ b)
@@ -153,6 +161,16 @@ pub record IsSearch (o : Options) (heads : List Link) (es : List Item) (own : Pl
   pub column : own.column ≡ band_of o r.height
   pub from : FitsItemsFrom o es least r
   pub left : AreLeft heads own least columns rows
+
+-- These are the columns and rows before `end` of the lists that are left for a search.
+pub record IsSearchBefore (o : Options) (heads : List Link) (es : List Item) (own : Place) (r : Sides) (end : ℕ)
+    (in_row in_column : Mask) : Type 0 where
+  pub least : ℕ
+  pub columns : Mask
+  pub rows : Mask
+  pub search : IsSearch o heads es own r least columns rows
+  pub of_row : KeepsBelow columns in_row end
+  pub of_column : KeepsBelow rows in_column end
 
 -- A box of these sides stands in a list of the row in one of the columns, and in none of those that are near.
 pub record IsFarIn (o : Options) (row : ℕ) (columns near : Mask) (s : Sides) : Type 0 where

@@ -1,5 +1,5 @@
 -- Sets of numbers below 64, a bit for each, and the marks of rows and columns. No public clause cites this module.
-use Rattle.std.specs.Prelude.{ℕ, ◌≡◌, ◌<◌, ◌==◌, Bool, true, List, length, slice_index_or}
+use Rattle.std.specs.Prelude.{ℕ, ◌≡◌, ◌<◌, ◌==◌, ◌&&◌, Bool, true, List, length, nat_lt, slice_index_or}
 use Rattle.std.specs.Int.{bit_at}
 use Rattle.atlas_search.specs.declared.masks.Mask.{Mask}
 
@@ -9,6 +9,10 @@ has m k = bit_at m.bits k == 1
 
 abbrev pub IsMarked : Mask → ℕ → Type 0
 IsMarked m k = has m k ≡ true
+
+-- The numbers of a set below one.
+abbrev pub KeepsBelow : (all below : Mask) → ℕ → Type 0
+KeepsBelow all below k = (j : ℕ) → has below j ≡ (has all j && nat_lt j k)
 
 abbrev pub mask_at : List Mask → ℕ → Mask
 mask_at masks i = slice_index_or masks i (record { bits = 0 })

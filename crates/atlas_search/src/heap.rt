@@ -3,16 +3,14 @@ ghost use Rattle.std.specs.Prelude.{◌≡◌, ◌≢◌, ◌<◌, ◌≤◌, �
 ghost use Rattle.atlas_model.specs.Boxes.{IsPositive};
 ghost use Rattle.atlas_model.specs.Choice.{ComesFirst};
 ghost use Rattle.atlas_model.specs.Pixels.{sides_of};
-ghost use Rattle.atlas_search.specs.Forks.{IsSplit};
 ghost use Rattle.atlas_search.specs.Heaps.{Heap, IsAbove, IsHeap, members};
-ghost use Rattle.atlas_search.specs.HeapCalls.{AreApart, ArePartsBelow, CanPush, CanRemove, CanSort, HasLeft, HasPushed};
-ghost use Rattle.atlas_search.specs.HeapCalls.{HasRemoved, HasSorted, IsForked, IsHungLeft, IsLinked, IsMelded, IsPut};
+ghost use Rattle.atlas_search.specs.HeapCalls.{AreApart, ArePartsBelow, CanPush, CanRemove, HasPushed};
+ghost use Rattle.atlas_search.specs.HeapCalls.{HasRemoved, IsHungLeft, IsLinked, IsMelded, IsPut};
 ghost use Rattle.atlas_search.specs.HeapCalls.{KeepsAreas, KeepsKinds};
 ghost use Rattle.atlas_search.specs.Items.{forked, item_at, item_box, item_sides, linked};
 ghost use Rattle.atlas_search.specs.Numbers.{no_slot, occurs};
 ghost use Rattle.atlas_search.specs.Ranks.{corner_of};
 ghost use Rattle.atlas_search.specs.Rectangles.{IsSolid, IsUnsigned};
-ghost use Rattle.atlas_search.specs.Showing.{cell_with};
 
 use crate::best::corner;
 use crate::cells::Cell;

@@ -1,5 +1,5 @@
 //! The search for the free box that a request takes, through the lists of a table.
-ghost use Rattle.std.specs.Prelude.{◌≡◌, ◌≢◌, ◌+◌, ◌*◌, ◌<◌, ◌≤◌, ◌==◌, ◌⊎◌, ◌++◌, ◌∷◌, ℕ, Bool, max, true, false, [], map, List, None};
+ghost use Rattle.std.specs.Prelude.{◌≡◌, ◌≢◌, ◌+◌, ◌*◌, ◌<◌, ◌≤◌, ◌==◌, ◌⊎◌, ◌++◌, ◌∷◌, ℕ, max, true, false, [], map, List, None};
 ghost use Rattle.std.specs.Prelude.{IfSome};
 ghost use Rattle.atlas_model.specs.Boxes.{Box, IsPositive, Sides};
 ghost use Rattle.atlas_model.specs.Choice.{IsFitting, IsPick, Options, class_of};
@@ -7,14 +7,12 @@ ghost use Rattle.atlas_search.specs.Bests.{HasSeen};
 ghost use Rattle.atlas_search.specs.Forks.{IsRouted};
 ghost use Rattle.atlas_search.specs.Heaps.{Heap, IsHeap, members};
 ghost use Rattle.atlas_search.specs.Heaps.Heap.{Top};
-ghost use Rattle.atlas_search.specs.Items.{Item, item_at, shown_items};
+ghost use Rattle.atlas_search.specs.Items.{Item, item_at};
 ghost use Rattle.atlas_search.specs.Lookups.{AreAfter, AreBelow, AreFreeItems, AreLarger, AreListed, AreNear, AreNoneApart};
-ghost use Rattle.atlas_search.specs.Lookups.{HasAdded, HasSearched, HasShown, HasShownTo, IsBeyond, IsInColumn, IsInRow, IsSearch};
-ghost use Rattle.atlas_search.specs.Lookups.{IsStanding};
+ghost use Rattle.atlas_search.specs.Lookups.{HasAdded, HasFound, HasSearched, HasShown, HasShownTo, IsBeyond, IsInColumn, IsInRow};
+ghost use Rattle.atlas_search.specs.Lookups.{IsSearch, IsSearchBefore, IsStanding};
 ghost use Rattle.atlas_search.specs.Masks.{IsMarked, has};
-ghost use Rattle.atlas_search.specs.Numbers.{no_slot};
 ghost use Rattle.atlas_search.specs.Rectangles.{IsSolid};
-ghost use Rattle.atlas_search.specs.Searches.{Shown};
 ghost use Rattle.atlas_search.specs.Showing.{IsForkShowable, IsListShowable, IsShowable, cell_with};
 ghost use Rattle.atlas_search.specs.declared.cells.Cell.{Cell};
 ghost use Rattle.atlas_model.specs.Pixels.{box_of, options_of, sides_of};
@@ -366,8 +364,8 @@ fn search_before<A: Allocator, E: Entry>(
     table: &Table<A>,
     options: &Scale,
     own: Place,
-    columns: Mask,
-    rows: Mask,
+    in_row: Mask,
+    in_column: Mask,
     end: usize,
     best: &mut Best,
 ) -> bool
@@ -375,16 +373,16 @@ fn search_before<A: Allocator, E: Entry>(
     requires column { own.column < end }
     requires end { end ≤ BANDS }
     requires grown { table.now.is_grown ≡ true }
-    requires search { (r : Sides) × (least : ℕ)
-        × IsSearch (options_of options.now) table.now.heads (map E.item entries.now) own r least columns rows }
-    ensures best { (r : Sides) (least : ℕ)
-        → IsSearch (options_of options.now) table.now.heads (map E.item entries.now) own r least columns rows
+    requires search { (r : Sides)
+        × IsSearchBefore (options_of options.now) table.now.heads (map E.item entries.now) own r end in_row in_column }
+    ensures best { (r : Sides)
+        → IsSearchBefore (options_of options.now) table.now.heads (map E.item entries.now) own r end in_row in_column
         → HasSeen best.old (class_of (options_of options.now) r == 2) r []
         → HasSearched (options_of options.now) (map E.item entries.now) end r best.new }
     ensures last { result ≡ true → AreNoneApart table.now.heads own }
 {
-    search_row(entries, table, own.row, columns.below(end), best);
-    search_column(entries, table, own.column, rows.below(end), best);
+    search_row(entries, table, own.row, in_row, best);
+    search_column(entries, table, own.column, in_column, best);
     if best.has_equal_side() {
         return false;
     }
@@ -392,6 +390,49 @@ fn search_before<A: Allocator, E: Entry>(
     let others = rows_with(table, first, BANDS).from(own.row + 1);
     search_rows(entries, table, options, others.below(end), first, end, best);
     others.is_empty()
+}
+
+// The entry that a request takes at once: of the lists before a row and a column that are left in its own row and column one
+// alone may have a slot, that is in its row, and what is first there has an equal side.
+#[inline(always)]
+fn pick_alone<A: Allocator, E: Entry>(
+    entries: &[E],
+    table: &Table<A>,
+    own: Place,
+    in_row: Mask,
+    in_column: Mask,
+    begun: Best,
+) -> Option<Link>
+    requires row { own.row < BANDS }
+    requires columns { (j : ℕ) → IsMarked in_row j → j < BANDS }
+    requires grown { table.now.is_grown ≡ true }
+    requires listed { (o : Options) × AreListed o table.now.heads (map E.item entries.now) }
+    ensures { IfSome result (λ at. (o : Options) (end : ℕ) (r : Sides) → own.row < end → own.column < end
+        → IsSearchBefore o table.now.heads (map E.item entries.now) own r end in_row in_column
+        → HasSeen begun (class_of o r == 2) r [] → HasFound o (map E.item entries.now) end r at) }
+{
+    let mut left = in_row;
+    let Some(column) = left.take_first() else {
+        return None;
+    };
+    if !left.or(in_column).is_empty() {
+        return None;
+    }
+    let top = table.stored_head(Place {
+        row: own.row,
+        column,
+    });
+    if top.number as usize >= entries.len() {
+        return None;
+    }
+    let mut best = begun;
+    if show_entry(&entries[top.number as usize], top, &mut best) {
+        return None;
+    }
+    if best.has_equal_side() {
+        return best.found();
+    }
+    None
 }
 
 // Shows the lists before a row and a column to a search, where only the first few slots come first in lists.
@@ -450,6 +491,61 @@ fn pick_few<A: Allocator, E: Entry>(
     None
 }
 
+// The free entry that a request takes, where each list with a slot reaches a row or column, and in its own row and column these may have one.
+#[inline(always)]
+fn pick_from<A: Allocator, E: Entry>(
+    entries: &[E],
+    table: &Table<A>,
+    options: &Scale,
+    own: Place,
+    least: usize,
+    mut columns: Mask,
+    mut rows: Mask,
+    begun: Best,
+) -> Option<Found>
+    requires grown { table.now.is_grown ≡ true }
+    requires row { own.row ≤ least }
+    requires column { own.column ≤ least }
+    requires least { least < BANDS }
+    requires search { IsSearch (options_of options.now) table.now.heads (map E.item entries.now) own (sides_of begun.size) least columns rows }
+    requires seen { HasSeen begun (class_of (options_of options.now) (sides_of begun.size) == 2) (sides_of begun.size) [] }
+    ensures none { result ≡ None → (free : List Box) → AreFreeItems (map E.item entries.now) free → (b : Box)
+        → IsFitting free (sides_of begun.size) b → ⊥ }
+    ensures picked { IfSome result
+        (λ found. (free : List Box) → AreFreeItems (map E.item entries.now) free
+        → IsPick free (options_of options.now) (sides_of begun.size) (box_of found.rectangle)) }
+    ensures standing { IfSome result (IsStanding (map E.item entries.now)) }
+{
+    let mut end = options.end_after(least);
+    let mut in_row = columns.below(end);
+    let mut in_column = rows.below(end);
+    if let Some(at) = pick_alone(entries, table, own, in_row, in_column, begun) {
+        let rectangle = entries[at.number as usize].rectangle();
+        return Some(Found { rectangle, at });
+    }
+    let mut best = begun;
+    loop {
+        let is_last = search_before(
+            entries, table, options, own, in_row, in_column, end, &mut best,
+        );
+        if let Some(at) = best.found() {
+            let rectangle = entries[at.number as usize].rectangle();
+            return Some(Found { rectangle, at });
+        }
+        if end >= BANDS {
+            return None;
+        }
+        columns = columns.from(end);
+        rows = rows.from(end);
+        if is_last && columns.or(rows).is_empty() {
+            return None;
+        }
+        end = options.end_after(end);
+        in_row = columns.below(end);
+        in_column = rows.below(end);
+    }
+}
+
 /// The free entry that a request of this rounded size takes.
 pub fn pick<A: Allocator, E: Entry>(
     entries: &[E],
@@ -469,23 +565,12 @@ pub fn pick<A: Allocator, E: Entry>(
     let own = options.place_for(size);
     let greater = own.row.max(own.column);
     let is_large = greater >= options.large();
-    let mut columns = table.row(own.row).from(own.column);
-    let mut rows = table.column(own.column).from(own.row + 1);
-    let mut least = least_from(table, own, greater, columns);
-    let mut best = Best::new(size, is_large);
-    while least < BANDS {
-        let end = options.end_after(least);
-        let is_last = search_before(entries, table, options, own, columns, rows, end, &mut best);
-        if let Some(at) = best.found() {
-            let rectangle = entries[at.number as usize].rectangle();
-            return Some(Found { rectangle, at });
-        }
-        columns = columns.from(end);
-        rows = rows.from(end);
-        if is_last && columns.or(rows).is_empty() {
-            return None;
-        }
-        least = end;
+    let columns = table.row(own.row).from(own.column);
+    let rows = table.column(own.column).from(own.row + 1);
+    let least = least_from(table, own, greater, columns);
+    if least < BANDS {
+        let begun = Best::new(size, is_large);
+        return pick_from(entries, table, options, own, least, columns, rows, begun);
     }
     if table.is_grown() {
         return None;

@@ -1,5 +1,5 @@
 -- The best free entry of the lowest class with one that the request fits is the pick.
-use Rattle.std.proofs.Common.{ℕ, ◌<◌, [], ◌≤◌, ◌≡◌, ◌≢◌, ◌==◌, List, length, map, get_or, sym, ap, ◌∙◌, arith, true, subst, inl, inr}
+use Rattle.std.proofs.Common.{ℕ, ◌<◌, [], ◌≤◌, ◌≡◌, ◌≢◌, ◌==◌, List, length, map, get_or, refl, sym, ap, ◌∙◌, arith, true, subst, inl, inr}
 use Rattle.std.specs.Prelude.{Contains}
 use Rattle.std.proofs.lemmas.Bool.{cases_lt, true≢false}
 use Rattle.std.proofs.lemmas.List.{get_or_past, length-map}
@@ -11,7 +11,7 @@ use Rattle.atlas_model.specs.Boxes.{Sides, Box, Fits, box_sides}
 use Rattle.atlas_model.specs.Choice.{Options, class_of, IsFitting, IsPick}
 use Rattle.atlas_search.specs.Bests.{HasSeen}
 use Rattle.atlas_search.specs.Items.{Item, item_at, item_box, item_sides, no_item, shown_item}
-use Rattle.atlas_search.specs.Lookups.{HasSearched, IsBestBelow, FitsItemsFrom, AreFreeItems, AreListed, IsEndAfter, IsItemBelow}
+use Rattle.atlas_search.specs.Lookups.{HasFound, HasSearched, IsBestBelow, FitsItemsFrom, AreFreeItems, AreListed, IsEndAfter, IsItemBelow}
 use Rattle.atlas_search.specs.Bands.{band_of}
 use Rattle.atlas_model.specs.Pixels.{box_of}
 use Rattle.atlas_search.specs.Ranks.{no_rank}
@@ -94,6 +94,14 @@ module _ (o : Options) (es : List Item) (r : Sides) where
               standing = record { free = subst (λ n. (item_at es n).is_free ≡ true) number shown.0; area = sym read };
             }
       ]
+
+  -- What is read of an entry that was found.
+  module _ (end : ℕ) (at : Link) (f : HasFound o es end r at) where
+    pub found-read : (a : Rectangle) → a ≡ (item_at es at.number).area → IsBestBelow o es end r (record { rectangle = a; at = at })
+    found-read a read = best-found end f.search at a f.searched f.is_at f.some read
+
+    pub found-free : (item_at es at.number).is_free ≡ true
+    found-free = (found-read _ refl).standing.free
 
   pub pick-of_items : (heads : List Link) (a : AreListed o heads es) (least end : ℕ) (found : Found)
       → IsEndAfter o least end → FitsItemsFrom o es least r

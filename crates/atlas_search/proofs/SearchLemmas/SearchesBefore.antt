@@ -15,10 +15,11 @@ use Rattle.atlas_search.specs.Items.{Item, item_at, item_box, item_sides, shown_
 use Rattle.atlas_search.specs.Numbers.{occurs}
 use Rattle.atlas_search.specs.Lookups.{AreAfter, AreBelow, AreListed, HasAdded, HasSearched, IsBeyond, IsInColumn, IsInRow}
 use Rattle.atlas_search.specs.Lookups.{IsItemBelow, IsSearch}
-use Rattle.atlas_search.specs.Masks.{has, IsMarked}
+use Rattle.atlas_search.specs.Masks.{KeepsBelow, has, IsMarked}
 use Rattle.atlas_search.specs.Searches.{Shown}
 use Rattle.atlas_search.specs.Tables.{is_used_at}
-use Rattle.atlas_search.proofs.SearchLemmas.AddedLists.{added-then, added-weaker}
+use Rattle.atlas_search.proofs.SearchLemmas.AddedLines.{IsRest, rest-cases}
+use Rattle.atlas_search.proofs.SearchLemmas.AddedLists.{added-nothing, added-of, added-then, added-weaker}
 use Rattle.atlas_search.proofs.SearchLemmas.BandLaws.{band_mono, list_of-most}
 use Rattle.atlas_search.proofs.SearchLemmas.Bests.{seen-passed}
 use Rattle.atlas_search.proofs.Occurrences.{same-self, same-ne}
@@ -73,12 +74,13 @@ pub or_right : (a b : Bool) → b ≡ true → (a || b) ≡ true
 or_right true b e = refl
 or_right false b e = e
 
--- The numbers of a mask from one on, and those below one.
+neither : (a b : Bool) → (a || b) ≡ false → (a ≡ false) × (b ≡ false)
+neither true b e = absurd (true≢false e)
+neither false b e = (refl, e)
+
+-- The numbers of a mask from one on.
 abbrev pub KeepsFrom : (all from : Mask) → ℕ → Type 0
 KeepsFrom all from k = (j : ℕ) → has from j ≡ (has all j && nat_le k j)
-
-abbrev pub KeepsBelow : (all below : Mask) → ℕ → Type 0
-KeepsBelow all below k = (j : ℕ) → has below j ≡ (has all j && nat_lt j k)
 
 pub marked-from : (all from : Mask) (k j : ℕ) → KeepsFrom all from k → IsMarked all j → k ≤ j → IsMarked from j
 marked-from all from k j is h l = is j ∙ and_of _ _ h (le_true k j l)
@@ -216,3 +218,23 @@ module _ (o : Options) (heads : List Link) (es : List Item) (own : Place) (r : S
         };
         seen = h.seen (class_of o r == 2) [] begun;
       }
+
+  -- So has one of which one list alone is left in the row and the column, whose first entry has an equal side.
+  pub searched-alone : (in_row in_column rest both : Mask) (column : ℕ) (s t : Best) → own.row < end → own.column < end
+      → KeepsBelow columns in_row end → KeepsBelow rows in_column end → IsRest in_row rest column
+      → ((j : ℕ) → has both j ≡ (has rest j || has in_column j)) → ((j : ℕ) → has both j ≡ false)
+      → HasSeen s (class_of o r == 2) r [] → HasAdded o es end r (λ i j. (i ≡ own.row) × (j ≡ column)) s t → t.rank ≡ 0
+      → HasSearched o es end r t
+  searched-alone in_row in_column rest both column s t lr lc bc br is_rest either none begun list equal =
+      let empty : (j : ℕ) → (has rest j ≡ false) × (has in_column j ≡ false) = λ j. neither _ _ (sym (either j) ∙ none j) in
+      searched in_row in_column s t t t lr lc bc br begun
+      (λ _. added-of o es end r _ (IsInRow own.row in_row) s t
+      (λ i j v. (
+        v.0,
+        elim (rest-cases in_row rest column j is_rest (empty j).0) [
+          | inl past ↦ absurd (true≢false (sym v.1 ∙ past))
+          | inr e ↦ e
+        ],
+      )) list)
+      (λ _. added-nothing o es end r (IsInColumn own.column in_column) t (λ i j v. true≢false (sym v.1 ∙ (empty i).1)))
+      (added-apart t equal)

@@ -10,8 +10,8 @@ use Rattle.atlas_search.specs.Bands.{band_of, start_of, IsInWindow}
 use Rattle.atlas_model.specs.Boxes.{Sides, Fits, IsPositive}
 use Rattle.atlas_model.specs.Choice.{Options, AreValid, class_of}
 use Rattle.atlas_search.specs.Items.{Item, item_at, item_sides}
-use Rattle.atlas_search.specs.Lookups.{AreLeft, AreListed, AreNoneApart, FitsItemsFrom, IsItemBelow}
-use Rattle.atlas_search.specs.Masks.{has, IsMarked}
+use Rattle.atlas_search.specs.Lookups.{AreLeft, AreListed, AreNoneApart, FitsItemsFrom, IsItemBelow, IsSearch, IsSearchBefore}
+use Rattle.atlas_search.specs.Masks.{KeepsBelow, has, IsMarked}
 use Rattle.atlas_search.specs.Tables.{is_used_at}
 use Rattle.atlas_search.proofs.SearchLemmas.AddedLists.{positive-at, used-at}
 use Rattle.atlas_search.proofs.SearchLemmas.BandLaws.{band_below, band_mono, class_of-most, start_mono, window_law}
@@ -40,7 +40,7 @@ least-reached heads own least columns used rows both each_column each_row later 
     ]
 
 -- The own row and column before the first turn.
-pub left-begin : (heads : List Link) (own : Place) (least : ℕ) (in_row columns in_column rows : Mask)
+left-begin : (heads : List Link) (own : Place) (least : ℕ) (in_row columns in_column rows : Mask)
     → ((j : ℕ) → j < 52 → is_used_at heads (52 * own.row + j) ≡ true → IsMarked in_row j)
     → KeepsFrom in_row columns own.column
     → ((i : ℕ) → i < 52 → is_used_at heads (52 * i + own.column) ≡ true → IsMarked in_column i)
@@ -125,6 +125,22 @@ module _ (o : Options) (heads : List Link) (es : List Item) (r : Sides) (a : Are
         reach _ _ (band_below o _) (band_below o _) (omega (arith, er, band_mono o _ _ fits.0)) (omega (arith, ec, band_mono o _ _ fits.1))
         (used-at o es 0 r heads a i free)
 
+    -- A search before its first turn.
+    pub search-begins : (least : ℕ) (in_row columns in_column rows : Mask) → AreReaching heads own least
+        → ((j : ℕ) → j < 52 → is_used_at heads (52 * own.row + j) ≡ true → IsMarked in_row j)
+        → KeepsFrom in_row columns own.column
+        → ((i : ℕ) → i < 52 → is_used_at heads (52 * i + own.column) ≡ true → IsMarked in_column i)
+        → KeepsFrom in_column rows (own.row + 1)
+        → IsSearch o heads es own r least columns rows
+    search-begins least in_row columns in_column rows reach used_row right used_column under =
+        record {
+          listed = a;
+          row = er;
+          column = ec;
+          from = fits-reaching least reach;
+          left = left-begin heads own least in_row columns in_column rows used_row right used_column under;
+        }
+
     -- Where no list to the right and below is used, and none is left in the own row and column, the request fits no entry.
     pub none-left : (end : ℕ) (columns rows both : Mask) → AreLeft heads own end columns rows → AreNoneApart heads own
         → ((k : ℕ) → has both k ≡ (has columns k || has rows k)) → ((k : ℕ) → has both k ≡ false)
@@ -150,6 +166,13 @@ module _ (o : Options) (heads : List Link) (es : List Item) (r : Sides) (a : Are
             | inr ne' ↦ apart row column (omega (arith, past, ne)) (band_below o _) (omega (arith, under, ne')) (band_below o _) full
           ]
         ]
+
+-- What is left before `end`, of what is left.
+pub before-of : (o : Options) (heads : List Link) (es : List Item) (own : Place) (r : Sides) (end : ℕ) (in_row in_column : Mask) (least : ℕ)
+    (columns rows : Mask) → IsSearch o heads es own r least columns rows → KeepsBelow columns in_row end → KeepsBelow rows in_column end
+    → IsSearchBefore o heads es own r end in_row in_column
+before-of o heads es own r end in_row in_column least columns rows search of_row of_column =
+    record { least = least; columns = columns; rows = rows; search = search; of_row = of_row; of_column = of_column }
 
 -- A size is large where its greater band is one of large sizes.
 pub large-law : (o : Options) (r : Sides) (row column greater large : ℕ) → AreValid o → IsPositive r

@@ -97,7 +97,8 @@ fn lift<E: Linked>(entries: &mut [E], up: Link, left: Link, right: Link, is_left
 }
 
 // What hangs below an entry becomes one heap, which hangs below `up`. Of a fork's two sides the top that comes first comes up.
-pub(crate) fn leave<E: Linked>(entries: &mut [E], at: Link, up: Link) -> Link
+#[inline(never)]
+fn leave_some<E: Linked>(entries: &mut [E], at: Link, up: Link) -> Link
     requires { (left : Heap) × (right : Heap) × ArePartsBelow (map E.item entries.old) at.number left right }
     ensures left { (left right : Heap) → ArePartsBelow (map E.item entries.old) at.number left right
         → HasLeft (map E.item entries.old) (map E.item entries.new) up.number result.number at.number left right }
@@ -114,4 +115,20 @@ pub(crate) fn leave<E: Linked>(entries: &mut [E], at: Link, up: Link) -> Link
         lift(entries, up, links.left, links.right, is_left);
     }
     first
+}
+
+// The same, where most often nothing hangs below the entry.
+#[inline(always)]
+pub(crate) fn leave<E: Linked>(entries: &mut [E], at: Link, up: Link) -> Link
+    requires { (left : Heap) × (right : Heap) × ArePartsBelow (map E.item entries.old) at.number left right }
+    ensures left { (left right : Heap) → ArePartsBelow (map E.item entries.old) at.number left right
+        → HasLeft (map E.item entries.old) (map E.item entries.new) up.number result.number at.number left right }
+    ensures areas { KeepsAreas (map E.item entries.old) (map E.item entries.new) }
+    ensures bare { map E.bare entries.new ≡ map E.bare entries.old }
+{
+    let links = links_at(entries, at);
+    if links.left.number == NO_SLOT && links.right.number == NO_SLOT {
+        return Link::NONE;
+    }
+    leave_some(entries, at, up)
 }

@@ -36,6 +36,7 @@ fn longer(side: i32, more: u32) -> i32 {
 pub struct Best {
     size: Size,
     is_large: bool,
+    // A least margin above 0 is the rank by exclusive or with this.
     flip: u32,
     // The lesser the better, and 0 for an equal side; `NO_RANK` as long as no box was shown that the request fits.
     rank: u32,

@@ -250,13 +250,13 @@ fn search_before<A: Allocator, E: Entry>(
     table: &Table<A>,
     options: &Scale,
     own: Place,
-    columns: Mask,
-    rows: Mask,
+    in_row: Mask,
+    in_column: Mask,
     end: usize,
     best: &mut Best,
 ) -> bool {
-    search_row(entries, table, own.row, columns.below(end), best);
-    search_column(entries, table, own.column, rows.below(end), best);
+    search_row(entries, table, own.row, in_row, best);
+    search_column(entries, table, own.column, in_column, best);
     if best.has_equal_side() {
         return false;
     }
@@ -264,6 +264,39 @@ fn search_before<A: Allocator, E: Entry>(
     let others = rows_with(table, first, BANDS).from(own.row + 1);
     search_rows(entries, table, options, others.below(end), first, end, best);
     others.is_empty()
+}
+
+// The entry that a request takes at once: of the lists before a row and a column that are left in its own row and column one
+// alone may have a slot, that is in its row, and what is first there has an equal side.
+#[inline(always)]
+fn pick_alone<A: Allocator, E: Entry>(
+    entries: &[E],
+    table: &Table<A>,
+    own: Place,
+    in_row: Mask,
+    in_column: Mask,
+    begun: Best,
+) -> Option<Link> {
+    let mut left = in_row;
+    let column = left.take_first()?;
+    if !left.or(in_column).is_empty() {
+        return None;
+    }
+    let top = table.stored_head(Place {
+        row: own.row,
+        column,
+    });
+    if top.number as usize >= entries.len() {
+        return None;
+    }
+    let mut best = begun;
+    if show_entry(&entries[top.number as usize], top, &mut best) {
+        return None;
+    }
+    if best.has_equal_side() {
+        return best.found();
+    }
+    None
 }
 
 // Shows the lists before a row and a column to a search, where only the first few slots come first in lists.
@@ -310,6 +343,48 @@ fn pick_few<A: Allocator, E: Entry>(
     None
 }
 
+// The free entry that a request takes, where each list with a slot reaches a row or column, and in its own row and column these may have one.
+#[inline(always)]
+fn pick_from<A: Allocator, E: Entry>(
+    entries: &[E],
+    table: &Table<A>,
+    options: &Scale,
+    own: Place,
+    least: usize,
+    mut columns: Mask,
+    mut rows: Mask,
+    begun: Best,
+) -> Option<Found> {
+    let mut end = options.end_after(least);
+    let mut in_row = columns.below(end);
+    let mut in_column = rows.below(end);
+    if let Some(at) = pick_alone(entries, table, own, in_row, in_column, begun) {
+        let rectangle = entries[at.number as usize].rectangle();
+        return Some(Found { rectangle, at });
+    }
+    let mut best = begun;
+    loop {
+        let is_last = search_before(
+            entries, table, options, own, in_row, in_column, end, &mut best,
+        );
+        if let Some(at) = best.found() {
+            let rectangle = entries[at.number as usize].rectangle();
+            return Some(Found { rectangle, at });
+        }
+        if end >= BANDS {
+            return None;
+        }
+        columns = columns.from(end);
+        rows = rows.from(end);
+        if is_last && columns.or(rows).is_empty() {
+            return None;
+        }
+        end = options.end_after(end);
+        in_row = columns.below(end);
+        in_column = rows.below(end);
+    }
+}
+
 /// The free entry that a request of this rounded size takes.
 #[inline]
 #[must_use]
@@ -322,23 +397,12 @@ pub fn pick<A: Allocator, E: Entry>(
     let own = options.place_for(size);
     let greater = own.row.max(own.column);
     let is_large = greater >= options.large();
-    let mut columns = table.row(own.row).from(own.column);
-    let mut rows = table.column(own.column).from(own.row + 1);
-    let mut least = least_from(table, own, greater, columns);
-    let mut best = Best::new(size, is_large);
-    while least < BANDS {
-        let end = options.end_after(least);
-        let is_last = search_before(entries, table, options, own, columns, rows, end, &mut best);
-        if let Some(at) = best.found() {
-            let rectangle = entries[at.number as usize].rectangle();
-            return Some(Found { rectangle, at });
-        }
-        columns = columns.from(end);
-        rows = rows.from(end);
-        if is_last && columns.or(rows).is_empty() {
-            return None;
-        }
-        least = end;
+    let columns = table.row(own.row).from(own.column);
+    let rows = table.column(own.column).from(own.row + 1);
+    let least = least_from(table, own, greater, columns);
+    if least < BANDS {
+        let begun = Best::new(size, is_large);
+        return pick_from(entries, table, options, own, least, columns, rows, begun);
     }
     if table.is_grown() {
         return None;

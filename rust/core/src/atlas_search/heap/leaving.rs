@@ -73,8 +73,8 @@ fn lift<E: Linked>(entries: &mut [E], up: Link, left: Link, right: Link, is_left
 }
 
 // What hangs below an entry becomes one heap, which hangs below `up`. Of a fork's two sides the top that comes first comes up.
-#[inline]
-pub(crate) fn leave<E: Linked>(entries: &mut [E], at: Link, up: Link) -> Link {
+#[inline(never)]
+fn leave_some<E: Linked>(entries: &mut [E], at: Link, up: Link) -> Link {
     if !is_fork(entries, at) {
         return close(entries, at, up);
     }
@@ -85,4 +85,14 @@ pub(crate) fn leave<E: Linked>(entries: &mut [E], at: Link, up: Link) -> Link {
         lift(entries, up, links.left, links.right, is_left);
     }
     first
+}
+
+// The same, where most often nothing hangs below the entry.
+#[inline(always)]
+pub(crate) fn leave<E: Linked>(entries: &mut [E], at: Link, up: Link) -> Link {
+    let links = links_at(entries, at);
+    if links.left.number == NO_SLOT && links.right.number == NO_SLOT {
+        return Link::NONE;
+    }
+    leave_some(entries, at, up)
 }
