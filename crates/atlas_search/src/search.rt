@@ -491,7 +491,8 @@ fn pick_few<A: Allocator, E: Entry>(
     None
 }
 
-// The free entry that a request takes, where each list with a slot reaches a row or column, and in its own row and column these may have one.
+// The free entry that a request takes, where each list with a slot reaches a row or column, and these columns of its own row and
+// these rows of its own column may have one.
 #[inline(always)]
 fn pick_from<A: Allocator, E: Entry>(
     entries: &[E],
@@ -507,7 +508,8 @@ fn pick_from<A: Allocator, E: Entry>(
     requires row { own.row ≤ least }
     requires column { own.column ≤ least }
     requires least { least < BANDS }
-    requires search { IsSearch (options_of options.now) table.now.heads (map E.item entries.now) own (sides_of begun.size) least columns rows }
+    requires search { IsSearch (options_of options.now) table.now.heads (map E.item entries.now) own (sides_of begun.size) least columns
+        rows }
     requires seen { HasSeen begun (class_of (options_of options.now) (sides_of begun.size) == 2) (sides_of begun.size) [] }
     ensures none { result ≡ None → (free : List Box) → AreFreeItems (map E.item entries.now) free → (b : Box)
         → IsFitting free (sides_of begun.size) b → ⊥ }

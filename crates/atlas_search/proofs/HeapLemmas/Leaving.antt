@@ -193,8 +193,8 @@ pub right-came : (es fs : List Item) (b : Bool) (up x y at : ℕ) (left right : 
 right-came es fs b up x y at left right is = subst (λ n. HasLeft es fs up n at left right) (sym (cond-false b x y is))
 
 -- Nothing is there.
-pub leaves-none : (es : List Item) (at x y up top : ℕ) (left right : Heap) → length es ≤ no_slot → IsHeap es at x left → IsHeap es at y right
-    → x ≡ no_slot → y ≡ no_slot → top ≡ no_slot → HasLeft es es up top at left right
+pub leaves-none : (es : List Item) (at x y up top : ℕ) (left right : Heap) → length es ≤ no_slot → IsHeap es at x left
+    → IsHeap es at y right → x ≡ no_slot → y ≡ no_slot → top ≡ no_slot → HasLeft es es up top at left right
 leaves-none es at x y up top left right short is_low is_high no_left no_right none =
     let low = none-of es at x left short is_low no_left in
     let high = none-of es at y right short is_high no_right in

@@ -343,7 +343,8 @@ fn pick_few<A: Allocator, E: Entry>(
     None
 }
 
-// The free entry that a request takes, where each list with a slot reaches a row or column, and in its own row and column these may have one.
+// The free entry that a request takes, where each list with a slot reaches a row or column, and these columns of its own row and
+// these rows of its own column may have one.
 #[inline(always)]
 fn pick_from<A: Allocator, E: Entry>(
     entries: &[E],

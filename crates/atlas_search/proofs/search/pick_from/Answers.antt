@@ -1,8 +1,8 @@
 use Rattle.std.proofs.Common.{map, arith}
 use Rattle.atlas_search.specs.Lookups.{HasFound}
 use Rattle.atlas_model.specs.Pixels.{options_of, sides_of}
-use Rattle.atlas_search.proofs.SearchLemmas.ItemPicks.{area-read, found-free, found-read, free-inside, none-found, none-from, no_room-of_items}
-use Rattle.atlas_search.proofs.SearchLemmas.ItemPicks.{pick-of_items, seen-nothing}
+use Rattle.atlas_search.proofs.SearchLemmas.ItemPicks.{area-read, found-free, found-read, free-inside, none-found, none-from}
+use Rattle.atlas_search.proofs.SearchLemmas.ItemPicks.{no_room-of_items, pick-of_items, seen-nothing}
 use Rattle.atlas_search.proofs.SearchLemmas.Windows.{before-of, left-next, none-left}
 use Rattle.atlas_search.proofs.search.pick_from.Goals as goal
 
@@ -85,7 +85,8 @@ bounds-entries-at-in-Some-found g c =
     let search = before-of o c.args.table.now.heads es c.args.own r l.end l.in_row l.in_column i.0 l.columns l.rows i.1 i.4 i.5 in
     let searched = c.search_before-is_last.ensures.best r search i.9 in
     let is = c.in-Some-found.ensures.some in
-    let found : HasFound o es l.end r c.in-Some-found.at = record { search = c.search_before-is_last.new.best; searched = searched; is_at = is.0; some = is.1 } in
+    let best = c.search_before-is_last.new.best in
+    let found : HasFound o es l.end r c.in-Some-found.at = record { search = best; searched = searched; is_at = is.0; some = is.1 } in
     free-inside g.E.Entry.item c.args.entries.now c.in-Some-found.at.number (found-free o es r l.end c.in-Some-found.at found)
 
 pub offset_bounds-entries-at-in-Some-found : goal.offset_bounds-entries-at-in-Some-found
@@ -101,7 +102,8 @@ returns-in-Some-found-clause-picked g c =
     let search = before-of o c.args.table.now.heads es c.args.own r l.end l.in_row l.in_column i.0 l.columns l.rows i.1 i.4 i.5 in
     let searched = c.search_before-is_last.ensures.best r search i.9 in
     let is = c.in-Some-found.ensures.some in
-    let found : HasFound o es l.end r c.in-Some-found.at = record { search = c.search_before-is_last.new.best; searched = searched; is_at = is.0; some = is.1 } in
+    let best = c.search_before-is_last.new.best in
+    let found : HasFound o es l.end r c.in-Some-found.at = record { search = best; searched = searched; is_at = is.0; some = is.1 } in
     let a = c.rectangle-rectangle-in-Some-found in
     let area = area-read g.E.Entry.item c.args.entries.now c.in-Some-found.at.number c.index-entries-at-in-Some-found.result a.result
     (found-free o es r l.end c.in-Some-found.at found) c.index-entries-at-in-Some-found.is a.ensures in
@@ -118,7 +120,8 @@ returns-in-Some-found-clause-standing g c =
     let search = before-of o c.args.table.now.heads es c.args.own r l.end l.in_row l.in_column i.0 l.columns l.rows i.1 i.4 i.5 in
     let searched = c.search_before-is_last.ensures.best r search i.9 in
     let is = c.in-Some-found.ensures.some in
-    let found : HasFound o es l.end r c.in-Some-found.at = record { search = c.search_before-is_last.new.best; searched = searched; is_at = is.0; some = is.1 } in
+    let best = c.search_before-is_last.new.best in
+    let found : HasFound o es l.end r c.in-Some-found.at = record { search = best; searched = searched; is_at = is.0; some = is.1 } in
     let a = c.rectangle-rectangle-in-Some-found in
     let area = area-read g.E.Entry.item c.args.entries.now c.in-Some-found.at.number c.index-entries-at-in-Some-found.result a.result
     (found-free o es r l.end c.in-Some-found.at found) c.index-entries-at-in-Some-found.is a.ensures in

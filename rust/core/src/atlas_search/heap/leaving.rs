@@ -87,7 +87,7 @@ fn leave_some<E: Linked>(entries: &mut [E], at: Link, up: Link) -> Link {
     first
 }
 
-// The same, where most often nothing hangs below the entry.
+// What hangs below an entry becomes one heap, which hangs below `up`: most often there is nothing.
 #[inline(always)]
 pub(crate) fn leave<E: Linked>(entries: &mut [E], at: Link, up: Link) -> Link {
     let links = links_at(entries, at);

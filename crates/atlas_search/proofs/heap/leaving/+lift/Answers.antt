@@ -207,7 +207,8 @@ returns-then-next-clause-lifted g t c = λ at left right a.
     left-came es ps c.args.is_left up c.args.left.number c.args.right.number at left right c.if-is_left.true
     (rises-left es at z w left right a first.0 gs m.moved m.others m.kinds ps up rest rest w
     (rises-lifted gs ps ps z up rest rest w p.left p.right parts isf is
-    (leaves-none ps z x y z rest p.left p.right heaps.short heaps.low heaps.high none.0 none.1 c.if-next.true) (plain-self ps)) first.1 refl refl)
+    (leaves-none ps z x y z rest p.left p.right heaps.short heaps.low heaps.high none.0 none.1 c.if-next.true) (plain-self ps))
+    first.1 refl refl)
 
 pub lift-requires : goal.lift-requires
 lift-requires g t c κs within =
@@ -487,7 +488,8 @@ returns-then-next-2-clause-lifted g t c = λ at left right a.
     right-came es ps c.args.is_left up c.args.left.number c.args.right.number at left right c.if-is_left.false
     (rises-right es at z w right left t first.0 gs m.moved m.others m.kinds ps up rest w rest
     (rises-lifted gs ps ps z up rest w rest p.left p.right parts isf is
-    (leaves-none ps z x y z rest p.left p.right heaps.short heaps.low heaps.high none.0 none.1 c.if-next-2.true) (plain-self ps)) first.1 refl refl)
+    (leaves-none ps z x y z rest p.left p.right heaps.short heaps.low heaps.high none.0 none.1 c.if-next-2.true) (plain-self ps))
+    first.1 refl refl)
 
 pub lift-requires-else-is_left : goal.lift-requires-else-is_left
 lift-requires-else-is_left g t c κs within =
