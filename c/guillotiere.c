@@ -5836,20 +5836,6 @@ MAKER ControlFlow_ref_Slot new_ControlFlow_ref_Slot_Break(void) {
     return it;
 }
 
-MAKER atlas_search_Found new_atlas_search_Found(atlas_model_Rectangle rectangle, atlas_search_Link at) {
-    atlas_search_Found it;
-    it.rectangle = rectangle;
-    it.at = at;
-    return it;
-}
-
-MAKER Option_Found new_Option_Found_Some(atlas_search_Found field_0) {
-    Option_Found it;
-    it.tag = 1u;
-    it.Some.field_0 = field_0;
-    return it;
-}
-
 MAKER Option_Found new_Option_Found_None(void) {
     Option_Found it;
     it.tag = 0u;
@@ -6435,6 +6421,20 @@ MAKER atlas_search_Best new_atlas_search_Best(atlas_model_Size size, bool is_lar
     it.bar = bar;
     it.reach = reach;
     it.at = at;
+    return it;
+}
+
+MAKER atlas_search_Found new_atlas_search_Found(atlas_model_Rectangle rectangle, atlas_search_Link at) {
+    atlas_search_Found it;
+    it.rectangle = rectangle;
+    it.at = at;
+    return it;
+}
+
+MAKER Option_Found new_Option_Found_Some(atlas_search_Found field_0) {
+    Option_Found it;
+    it.tag = 1u;
+    it.Some.field_0 = field_0;
     return it;
 }
 
@@ -10649,12 +10649,9 @@ SMALL atlas_search_Mask atlas_search_table_Table_column(const atlas_search_Table
 SMALL uint64_t atlas_search_search_least_from(const atlas_search_Table *table, atlas_search_Place own, uint64_t greater,
         atlas_search_Mask columns);
 SMALL atlas_search_Best atlas_search_best_Best_new(atlas_model_Size size, bool is_large);
-SMALL uint64_t atlas_search_bands_Scale_end_after(const atlas_search_Scale *self, uint64_t first);
-SMALL bool atlas_search_search_search_before_Slot(slice_Slot entries, const atlas_search_Table *table, const atlas_search_Scale *options,
-        atlas_search_Place own, atlas_search_Mask columns, atlas_search_Mask rows, uint64_t end, atlas_search_Best *best);
-SMALL Option_Link atlas_search_best_Best_found(const atlas_search_Best *self);
-SMALL atlas_search_Mask atlas_search_masks_Mask_or(atlas_search_Mask self, atlas_search_Mask other);
-SMALL bool atlas_search_masks_Mask_is_empty(atlas_search_Mask self);
+SMALL Option_Found atlas_search_search_pick_from_Slot(slice_Slot entries, const atlas_search_Table *table,
+        const atlas_search_Scale *options, atlas_search_Place own, uint64_t least, atlas_search_Mask columns, atlas_search_Mask rows,
+        atlas_search_Best begun);
 COLD Option_Found atlas_search_search_pick_few_Slot(slice_Slot entries, const atlas_search_Table *table, const atlas_search_Scale *options,
         atlas_model_Size size);
 SMALL atlas_store_Slot atlas_store_store_start_whole_slot(atlas_model_Size size);
@@ -10971,16 +10968,16 @@ SMALL uint32_t atlas_search_choice_spare(uint32_t from, uint32_t to, uint32_t si
 SMALL atlas_search_Mask atlas_search_masks_Mask_none(void);
 SMALL atlas_search_Mask atlas_search_marks_Marks_row(const atlas_search_Marks *self, uint64_t i);
 SMALL atlas_search_Mask atlas_search_marks_Marks_column(const atlas_search_Marks *self, uint64_t j);
+SMALL atlas_search_Mask atlas_search_masks_Mask_or(atlas_search_Mask self, atlas_search_Mask other);
 SMALL uint32_t atlas_search_best_flip_of(bool is_large);
+SMALL uint64_t atlas_search_bands_Scale_end_after(const atlas_search_Scale *self, uint64_t first);
 SMALL atlas_search_Mask atlas_search_masks_Mask_below(atlas_search_Mask self, uint64_t k);
-SMALL void atlas_search_search_search_row_Slot(slice_Slot entries, const atlas_search_Table *table, uint64_t row,
-        atlas_search_Mask columns, atlas_search_Best *best);
-SMALL void atlas_search_search_search_column_Slot(slice_Slot entries, const atlas_search_Table *table, uint64_t column,
-        atlas_search_Mask rows, atlas_search_Best *best);
-SMALL bool atlas_search_best_Best_has_equal_side(const atlas_search_Best *self);
-SMALL atlas_search_Mask atlas_search_search_rows_with(const atlas_search_Table *table, uint64_t first, uint64_t end);
-SMALL void atlas_search_search_search_rows_Slot(slice_Slot entries, const atlas_search_Table *table, const atlas_search_Scale *options,
-        atlas_search_Mask rows, uint64_t first, uint64_t end, atlas_search_Best *best);
+SMALL Option_Link atlas_search_search_pick_alone_Slot(slice_Slot entries, const atlas_search_Table *table, atlas_search_Place own,
+        atlas_search_Mask in_row, atlas_search_Mask in_column, atlas_search_Best begun);
+SMALL bool atlas_search_search_search_before_Slot(slice_Slot entries, const atlas_search_Table *table, const atlas_search_Scale *options,
+        atlas_search_Place own, atlas_search_Mask in_row, atlas_search_Mask in_column, uint64_t end, atlas_search_Best *best);
+SMALL Option_Link atlas_search_best_Best_found(const atlas_search_Best *self);
+SMALL bool atlas_search_masks_Mask_is_empty(atlas_search_Mask self);
 SMALL void atlas_search_search_search_few_Slot(slice_Slot entries, const atlas_search_Table *table, uint64_t end, atlas_search_Best *best);
 SMALL void std_alloc_vec_Vec_put_Slot(Vec_Slot *self, atlas_store_Slot x);
 SMALL bool atlas_allocator_atlas_room_precedes(const atlas_model_Rectangle *one, const atlas_model_Rectangle *other);
@@ -11008,10 +11005,9 @@ SMALL void atlas_store_slots_batch_show(slice_Slot_2 slots, slice_AllocId ids);
 SMALL void std_alloc_vec_opened_drop_run_AllocId(Slots_CacheChange_u64 *row, uint64_t from, uint64_t to);
 SMALL uint64_t atlas_search_bands_border(uint32_t threshold, const atlas_model_AllocatorOptions *options);
 SMALL void std_alloc_vec_Vec_truncate_within_FreeBox(Vec_Slot *self, uint64_t n);
-SMALL bool atlas_search_search_search_before_FreeBox(slice_FreeBox entries, const atlas_search_Table *table,
-        const atlas_search_Scale *options, atlas_search_Place own, atlas_search_Mask columns, atlas_search_Mask rows, uint64_t end,
-        atlas_search_Best *best);
-SMALL atlas_model_Rectangle guillotiere_simple_boxes_FreeBoxEntry_rectangle(const guillotiere_FreeBox *self);
+SMALL Option_Found atlas_search_search_pick_from_FreeBox(slice_FreeBox entries, const atlas_search_Table *table,
+        const atlas_search_Scale *options, atlas_search_Place own, uint64_t least, atlas_search_Mask columns, atlas_search_Mask rows,
+        atlas_search_Best begun);
 COLD Option_Found atlas_search_search_pick_few_FreeBox(slice_FreeBox entries, const atlas_search_Table *table,
         const atlas_search_Scale *options, atlas_model_Size size);
 SMALL atlas_model_Point atlas_search_cut_corner_of(atlas_model_Rectangle chosen, atlas_model_Size size);
@@ -11331,12 +11327,15 @@ SMALL void atlas_store_slots_extending_hang(slice_Slot_2 slots, atlas_search_Lin
 SMALL uint32_t core_int_u32_min(uint32_t given_1, uint32_t given_2);
 SMALL uint64_t atlas_search_bands_step(uint32_t side);
 SMALL uint64_t atlas_search_bands_passed(uint32_t side, uint32_t threshold);
-SMALL void atlas_search_search_search_list_Slot(slice_Slot entries, const atlas_search_Table *table, atlas_search_Place place,
-        atlas_search_Best *best);
-SMALL atlas_search_Mask atlas_search_search_columns_near(const atlas_search_Scale *options, uint64_t row, atlas_search_Mask columns,
-        const atlas_search_Best *best);
-SMALL void atlas_search_search_search_larger_Slot(slice_Slot entries, const atlas_search_Table *table, uint64_t row,
+SMALL bool atlas_search_search_show_entry_Slot(const atlas_store_Slot *entry, atlas_search_Link at, atlas_search_Best *best);
+SMALL bool atlas_search_best_Best_has_equal_side(const atlas_search_Best *self);
+SMALL void atlas_search_search_search_row_Slot(slice_Slot entries, const atlas_search_Table *table, uint64_t row,
         atlas_search_Mask columns, atlas_search_Best *best);
+SMALL void atlas_search_search_search_column_Slot(slice_Slot entries, const atlas_search_Table *table, uint64_t column,
+        atlas_search_Mask rows, atlas_search_Best *best);
+SMALL atlas_search_Mask atlas_search_search_rows_with(const atlas_search_Table *table, uint64_t first, uint64_t end);
+SMALL void atlas_search_search_search_rows_Slot(slice_Slot entries, const atlas_search_Table *table, const atlas_search_Scale *options,
+        atlas_search_Mask rows, uint64_t first, uint64_t end, atlas_search_Best *best);
 SMALL uint64_t atlas_search_table_Table_list_of_few(const atlas_search_Table *self, uint64_t i);
 SMALL void atlas_search_search_show_list_Slot(slice_Slot entries, atlas_search_Link top, atlas_search_Best *best);
 SMALL uint64_t std_alloc_vec_least_capacity_Allocation(void);
@@ -11362,12 +11361,12 @@ SMALL void std_alloc_vec_opened_drop_run_Marks_2(Slots_CacheChange_u64 *row, uin
 SMALL atlas_model_AllocId core_slots_Slots_take_AllocId(Slots_CacheChange_u64 *self, uint64_t i);
 SMALL void core_mem_drop_AllocId(atlas_model_AllocId x);
 SMALL void std_alloc_vec_opened_drop_run_FreeBox(Slots_CacheChange_u64 *row, uint64_t from, uint64_t to);
-SMALL void atlas_search_search_search_row_FreeBox(slice_FreeBox entries, const atlas_search_Table *table, uint64_t row,
-        atlas_search_Mask columns, atlas_search_Best *best);
-SMALL void atlas_search_search_search_column_FreeBox(slice_FreeBox entries, const atlas_search_Table *table, uint64_t column,
-        atlas_search_Mask rows, atlas_search_Best *best);
-SMALL void atlas_search_search_search_rows_FreeBox(slice_FreeBox entries, const atlas_search_Table *table,
-        const atlas_search_Scale *options, atlas_search_Mask rows, uint64_t first, uint64_t end, atlas_search_Best *best);
+SMALL Option_Link atlas_search_search_pick_alone_FreeBox(slice_FreeBox entries, const atlas_search_Table *table, atlas_search_Place own,
+        atlas_search_Mask in_row, atlas_search_Mask in_column, atlas_search_Best begun);
+SMALL atlas_model_Rectangle guillotiere_simple_boxes_FreeBoxEntry_rectangle(const guillotiere_FreeBox *self);
+SMALL bool atlas_search_search_search_before_FreeBox(slice_FreeBox entries, const atlas_search_Table *table,
+        const atlas_search_Scale *options, atlas_search_Place own, atlas_search_Mask in_row, atlas_search_Mask in_column, uint64_t end,
+        atlas_search_Best *best);
 SMALL void atlas_search_search_search_few_FreeBox(slice_FreeBox entries, const atlas_search_Table *table, uint64_t end,
         atlas_search_Best *best);
 SMALL void guillotiere_simple_boxes_FreeBoxes_unlist(guillotiere_FreeBoxes *self, atlas_search_Link at);
@@ -11701,9 +11700,16 @@ PART atlas_search_Link atlas_search_heap_sorting_sort_in_Slot(slice_Slot_2 entri
         atlas_search_Link top, atlas_search_Link at);
 SMALL atlas_store_Slot atlas_store_slots_lists_fresh_slot(void);
 SMALL void atlas_store_slots_lists_renew(slice_Slot_2 slots, atlas_search_Link at);
-SMALL Option_Size atlas_search_best_Best_farthest(const atlas_search_Best *self);
-SMALL void atlas_search_search_show_larger_Slot(slice_Slot entries, atlas_search_Link top, atlas_search_Best *best);
-SMALL bool atlas_search_search_show_entry_Slot(const atlas_store_Slot *entry, atlas_search_Link at, atlas_search_Best *best);
+SMALL uint64_t atlas_search_best_corner(atlas_model_Rectangle rectangle);
+SMALL bool atlas_search_best_Best_passes(const atlas_search_Best *self, uint64_t corner);
+SMALL bool atlas_search_best_Best_look(atlas_search_Best *self, atlas_model_Rectangle rectangle, uint64_t corner, atlas_search_Link at);
+SMALL bool atlas_store_slots_entry_SlotEntry_is_fork(const atlas_store_Slot *self);
+SMALL void atlas_search_search_search_list_Slot(slice_Slot entries, const atlas_search_Table *table, atlas_search_Place place,
+        atlas_search_Best *best);
+SMALL atlas_search_Mask atlas_search_search_columns_near(const atlas_search_Scale *options, uint64_t row, atlas_search_Mask columns,
+        const atlas_search_Best *best);
+SMALL void atlas_search_search_search_larger_Slot(slice_Slot entries, const atlas_search_Table *table, uint64_t row,
+        atlas_search_Mask columns, atlas_search_Best *best);
 SMALL void atlas_search_search_show_halves_Slot(slice_Slot entries, const atlas_store_Slot *fork, atlas_search_Cell cell,
         atlas_search_Best *best);
 SMALL bool std_alloc_room_may_hold_Allocation(uint64_t n);
@@ -11730,10 +11736,13 @@ SMALL void core_mem_drop_Marks_2(const atlas_search_Marks x);
 SMALL void guillotiere_c_Destruct_none_drop_AllocId(atlas_model_AllocId given_1);
 SMALL guillotiere_FreeBox core_slots_Slots_take_FreeBox(Slots_CacheChange_u64 *self, uint64_t i);
 SMALL void core_mem_drop_FreeBox(guillotiere_FreeBox x);
-SMALL void atlas_search_search_search_list_FreeBox(slice_FreeBox entries, const atlas_search_Table *table, atlas_search_Place place,
-        atlas_search_Best *best);
-SMALL void atlas_search_search_search_larger_FreeBox(slice_FreeBox entries, const atlas_search_Table *table, uint64_t row,
+SMALL bool atlas_search_search_show_entry_FreeBox(const guillotiere_FreeBox *entry, atlas_search_Link at, atlas_search_Best *best);
+SMALL void atlas_search_search_search_row_FreeBox(slice_FreeBox entries, const atlas_search_Table *table, uint64_t row,
         atlas_search_Mask columns, atlas_search_Best *best);
+SMALL void atlas_search_search_search_column_FreeBox(slice_FreeBox entries, const atlas_search_Table *table, uint64_t column,
+        atlas_search_Mask rows, atlas_search_Best *best);
+SMALL void atlas_search_search_search_rows_FreeBox(slice_FreeBox entries, const atlas_search_Table *table,
+        const atlas_search_Scale *options, atlas_search_Mask rows, uint64_t first, uint64_t end, atlas_search_Best *best);
 SMALL void atlas_search_search_show_list_FreeBox(slice_FreeBox entries, atlas_search_Link top, atlas_search_Best *best);
 SMALL atlas_search_Link atlas_search_heap_remove_FreeBox(slice_FreeBox_2 entries, atlas_search_Link at);
 SMALL uint64_t std_alloc_vec_least_capacity_FreeBox(void);
@@ -12023,11 +12032,7 @@ SMALL void core_mem_drop_Marks_4(const atlas_search_Marks x);
 SMALL atlas_search_Link atlas_store_slots_entry_SlotEntry_up(const atlas_store_Slot *self);
 SMALL atlas_search_Link atlas_store_slots_entry_SlotEntry_left(const atlas_store_Slot *self);
 SMALL atlas_search_Link atlas_store_slots_entry_SlotEntry_right(const atlas_store_Slot *self);
-SMALL bool atlas_search_heap_is_fork_Slot(slice_Slot entries, atlas_search_Link at);
-SMALL atlas_search_Link atlas_search_heap_close_Slot(slice_Slot_2 entries, atlas_search_Link at, atlas_search_Link up);
-SMALL bool atlas_search_heap_leaving_is_left_first_Slot(slice_Slot entries, atlas_search_Link left, atlas_search_Link right);
-PART void atlas_search_heap_leaving_lift_Slot(slice_Slot_2 entries, atlas_search_Link up, atlas_search_Link left, atlas_search_Link right,
-        bool is_left);
+SMALL atlas_search_Link atlas_search_heap_leaving_leave_some_Slot(slice_Slot_2 entries, atlas_search_Link at, atlas_search_Link up);
 SMALL void atlas_store_slots_entry_SlotLinked_set_links(atlas_store_Slot *self, atlas_search_Link up, atlas_search_Link left,
         atlas_search_Link right);
 SMALL void atlas_search_table_set_first_in(Vec_Slot *heads, Vec_Slot *marks, uint64_t *emptied, uint64_t number, atlas_search_Link first);
@@ -12035,20 +12040,16 @@ SMALL tuple_Rectangle_Rectangle atlas_store_slots_placing_cut_area(atlas_model_R
         uint32_t extent);
 SMALL void atlas_store_slots_entry_SlotLinked_set_fork(atlas_store_Slot *self, bool is_fork);
 SMALL uint64_t atlas_search_heap_corner_at_Slot(slice_Slot entries, atlas_search_Link at);
+SMALL bool atlas_search_heap_is_fork_Slot(slice_Slot entries, atlas_search_Link at);
 SMALL void atlas_search_heap_set_up_Slot(slice_Slot_2 entries, atlas_search_Link at, atlas_search_Link up);
 SMALL void atlas_search_heap_hang_Slot(slice_Slot_2 entries, atlas_search_Link top, atlas_search_Link part);
 PART void atlas_search_heap_sorting_sink_Slot(slice_Slot_2 entries, atlas_search_Link up, atlas_search_Link below, atlas_search_Link at,
         uint32_t left, uint32_t right, uint32_t top, uint32_t bottom);
 SMALL void atlas_search_heap_sorting_make_fork_Slot(slice_Slot_2 entries, atlas_search_Cell cell, atlas_search_Link top);
-SMALL uint32_t atlas_search_best_longer(uint32_t side, uint32_t more);
-SMALL uint64_t atlas_search_best_corner(atlas_model_Rectangle rectangle);
-SMALL bool atlas_search_best_Best_passes_larger(const atlas_search_Best *self, uint64_t corner);
-SMALL void atlas_search_best_Best_look_larger(atlas_search_Best *self, atlas_model_Rectangle rectangle, uint64_t corner,
-        atlas_search_Link at);
-SMALL bool atlas_store_slots_entry_SlotEntry_is_fork(const atlas_store_Slot *self);
-SMALL bool atlas_search_best_Best_ends_in(const atlas_search_Best *self, atlas_search_Cell cell, uint64_t corner);
-SMALL bool atlas_search_best_Best_passes(const atlas_search_Best *self, uint64_t corner);
-SMALL bool atlas_search_best_Best_look(atlas_search_Best *self, atlas_model_Rectangle rectangle, uint64_t corner, atlas_search_Link at);
+SMALL Option_u32 atlas_search_best_Best_rank_ahead(const atlas_search_Best *self, atlas_model_Rectangle rectangle, uint64_t corner);
+SMALL uint32_t atlas_search_best_reach_of(bool is_large, uint32_t rank);
+SMALL Option_Size atlas_search_best_Best_farthest(const atlas_search_Best *self);
+SMALL void atlas_search_search_show_larger_Slot(slice_Slot entries, atlas_search_Link top, atlas_search_Best *best);
 SMALL bool atlas_search_best_Best_may_fit_in(const atlas_search_Best *self, atlas_search_Cell cell);
 SMALL void atlas_search_search_show_within_Slot(slice_Slot entries, atlas_search_Link at, atlas_search_Cell cell, atlas_search_Best *best);
 SMALL bool atlas_search_best_Best_may_gain_in(const atlas_search_Best *self, atlas_search_Cell cell);
@@ -12070,13 +12071,15 @@ SMALL void atlas_allocator_Destruct_none_drop_Slot(atlas_store_Slot given_1);
 SMALL void atlas_allocator_Destruct_none_drop_Link(atlas_search_Link given_1);
 SMALL void atlas_allocator_Destruct_none_drop_Marks(const atlas_search_Marks given_1);
 SMALL void guillotiere_c_Destruct_none_drop_FreeBox(guillotiere_FreeBox given_1);
-SMALL void atlas_search_search_show_larger_FreeBox(slice_FreeBox entries, atlas_search_Link top, atlas_search_Best *best);
-SMALL bool atlas_search_search_show_entry_FreeBox(const guillotiere_FreeBox *entry, atlas_search_Link at, atlas_search_Best *best);
+SMALL bool guillotiere_simple_boxes_FreeBoxEntry_is_fork(const guillotiere_FreeBox *self);
+SMALL void atlas_search_search_search_list_FreeBox(slice_FreeBox entries, const atlas_search_Table *table, atlas_search_Place place,
+        atlas_search_Best *best);
+SMALL void atlas_search_search_search_larger_FreeBox(slice_FreeBox entries, const atlas_search_Table *table, uint64_t row,
+        atlas_search_Mask columns, atlas_search_Best *best);
 SMALL void atlas_search_search_show_halves_FreeBox(slice_FreeBox entries, const guillotiere_FreeBox *fork, atlas_search_Cell cell,
         atlas_search_Best *best);
 SMALL atlas_search_Link atlas_search_heap_leaving_leave_FreeBox(slice_FreeBox_2 entries, atlas_search_Link at, atlas_search_Link up);
 SMALL void guillotiere_Destruct_none_drop_FreeBox(guillotiere_FreeBox given_1);
-SMALL bool guillotiere_simple_boxes_FreeBoxEntry_is_fork(const guillotiere_FreeBox *self);
 SMALL void atlas_search_heap_hang_left_FreeBox(slice_FreeBox_2 entries, atlas_search_Link above, atlas_search_Link less);
 SMALL void atlas_search_heap_swap_below_FreeBox(slice_FreeBox_2 entries, atlas_search_Link above);
 SMALL atlas_search_Step atlas_search_cells_step_from(uint32_t side, uint32_t many);
@@ -12354,17 +12357,24 @@ SMALL void atlas_store_Destruct_none_drop_Slot(atlas_store_Slot given_1);
 SMALL void core_mem_drop_Link_7(atlas_search_Link x);
 SMALL void atlas_store_Destruct_none_drop_Link(atlas_search_Link given_1);
 SMALL void atlas_store_Destruct_none_drop_Marks(const atlas_search_Marks given_1);
-SMALL void atlas_search_heap_move_below_Slot(slice_Slot_2 entries, atlas_search_Link at, atlas_search_Link up);
+SMALL atlas_search_Link atlas_search_heap_close_Slot(slice_Slot_2 entries, atlas_search_Link at, atlas_search_Link up);
+SMALL bool atlas_search_heap_leaving_is_left_first_Slot(slice_Slot entries, atlas_search_Link left, atlas_search_Link right);
+PART void atlas_search_heap_leaving_lift_Slot(slice_Slot_2 entries, atlas_search_Link up, atlas_search_Link left, atlas_search_Link right,
+        bool is_left);
 SMALL void atlas_search_marks_Marks_unmark(atlas_search_Marks *self, atlas_search_Place at);
 SMALL void atlas_search_heap_hang_left_Slot(slice_Slot_2 entries, atlas_search_Link above, atlas_search_Link less);
 SMALL void atlas_search_heap_swap_below_Slot(slice_Slot_2 entries, atlas_search_Link above);
-SMALL uint32_t atlas_search_best_rank_above_zero(uint32_t flip, uint32_t margin);
+SMALL void atlas_search_heap_move_below_Slot(slice_Slot_2 entries, atlas_search_Link at, atlas_search_Link up);
+SMALL uint32_t atlas_search_best_rank(uint32_t flip, uint32_t margin);
 SMALL bool atlas_search_best_Best_is_beaten_by(const atlas_search_Best *self, uint32_t rank, uint64_t corner);
-SMALL bool atlas_search_cells_Cell_is_beyond(atlas_search_Cell self, atlas_model_Size size, uint32_t more);
-SMALL Option_u32 atlas_search_best_Best_rank_ahead(const atlas_search_Best *self, atlas_model_Rectangle rectangle, uint64_t corner);
-SMALL uint32_t atlas_search_best_reach_of(bool is_large, uint32_t rank);
+SMALL uint32_t atlas_search_best_longer(uint32_t side, uint32_t more);
+SMALL bool atlas_search_best_Best_passes_larger(const atlas_search_Best *self, uint64_t corner);
+SMALL void atlas_search_best_Best_look_larger(atlas_search_Best *self, atlas_model_Rectangle rectangle, uint64_t corner,
+        atlas_search_Link at);
+SMALL bool atlas_search_best_Best_ends_in(const atlas_search_Best *self, atlas_search_Cell cell, uint64_t corner);
 PART void atlas_search_search_show_below_Slot(slice_Slot entries, const atlas_store_Slot *fork, atlas_search_Best *best, uint32_t left,
         uint32_t right, uint32_t top, uint32_t bottom);
+SMALL bool atlas_search_cells_Cell_is_beyond(atlas_search_Cell self, atlas_model_Size size, uint32_t more);
 SMALL void core_slots_lends_with_slots_Allocation_u64(slice_Allocation_2 given_1, void *given_2, uint64_t given_3);
 SMALL bool core_slice_sort_order_ByKeyOrder_less_Allocation_Reverse_tuple_u64_u32(void *given_1, const atlas_model_Allocation *given_2,
         const atlas_model_Allocation *given_3);
@@ -12380,11 +12390,10 @@ SMALL bool core_slice_sort_fits_in_Allocation(uint64_t bytes);
 SMALL void core_slice_sort_small_network_sort_Allocation(slice_Allocation_2 s, void *order);
 SMALL tuple_slice_Allocation_slice_Allocation core_slice_slice_T_split_at_mut_Allocation(slice_Allocation_2 given_1, uint64_t given_2);
 SMALL void core_slice_edits_mirror_Allocation(slice_Allocation_2 front, uint64_t low, slice_Allocation_2 back, uint64_t n);
+SMALL void atlas_search_search_show_larger_FreeBox(slice_FreeBox entries, atlas_search_Link top, atlas_search_Best *best);
 SMALL void atlas_search_search_show_within_FreeBox(slice_FreeBox entries, atlas_search_Link at, atlas_search_Cell cell,
         atlas_search_Best *best);
-SMALL bool atlas_search_heap_leaving_is_left_first_FreeBox(slice_FreeBox entries, atlas_search_Link left, atlas_search_Link right);
-PART void atlas_search_heap_leaving_lift_FreeBox(slice_FreeBox_2 entries, atlas_search_Link up, atlas_search_Link left,
-        atlas_search_Link right, bool is_left);
+SMALL atlas_search_Link atlas_search_heap_leaving_leave_some_FreeBox(slice_FreeBox_2 entries, atlas_search_Link at, atlas_search_Link up);
 SMALL void std_alloc_vec_Vec_truncate_within_Slot_6(Vec_Slot *self, uint64_t n);
 SMALL void std_alloc_vec_Vec_truncate_within_Link_11(Vec_Slot *self, uint64_t n);
 SMALL void std_alloc_vec_Vec_truncate_within_Marks_6(Vec_Slot *self, uint64_t n);
@@ -12605,8 +12614,7 @@ SMALL void std_alloc_Destruct_none_drop_Slot(atlas_store_Slot given_1);
 SMALL void atlas_search_Destruct_none_drop_Link(atlas_search_Link given_1);
 SMALL void std_alloc_Destruct_none_drop_Link(atlas_search_Link given_1);
 SMALL atlas_search_Mask atlas_search_masks_Mask_without(atlas_search_Mask self, uint64_t k);
-SMALL uint32_t core_int_i32_cast_unsigned(uint32_t given_1);
-SMALL uint32_t atlas_search_best_rank(uint32_t flip, uint32_t margin);
+SMALL uint32_t atlas_search_best_rank_above_zero(uint32_t flip, uint32_t margin);
 SMALL tuple_Slots_CacheChange_u64 core_core_slice_sort_small_insert_each_FnOnce_call_once_Allocation(Slots_CacheChange_u64 given_2,
         uint64_t given_4);
 SMALL Reverse_tuple_u64_u32 atlas_allocator_atlas_rearranging_fn_sort_for_refit_sort_unstable_by_key_FnMut_call_mut(void *given_1,
@@ -12625,6 +12633,9 @@ SMALL tuple_slice_Allocation_slice_Allocation core_slice_split_at_mut_inner_Allo
 SMALL void core_mem_swap_Allocation(atlas_model_Allocation *x, atlas_model_Allocation *y);
 PART void atlas_search_search_show_below_FreeBox(slice_FreeBox entries, const guillotiere_FreeBox *fork, atlas_search_Best *best,
         uint32_t left, uint32_t right, uint32_t top, uint32_t bottom);
+SMALL bool atlas_search_heap_leaving_is_left_first_FreeBox(slice_FreeBox entries, atlas_search_Link left, atlas_search_Link right);
+PART void atlas_search_heap_leaving_lift_FreeBox(slice_FreeBox_2 entries, atlas_search_Link up, atlas_search_Link left,
+        atlas_search_Link right, bool is_left);
 SMALL void std_alloc_vec_opened_drop_run_Slot_6(Slots_CacheChange_u64 *row, uint64_t from, uint64_t to);
 SMALL void std_alloc_vec_opened_drop_run_Link_10(Slots_CacheChange_u64 *row, uint64_t from, uint64_t to);
 SMALL void std_alloc_vec_opened_drop_run_Marks_6(Slots_CacheChange_u64 *row, uint64_t from, uint64_t to);
@@ -12806,6 +12817,7 @@ SMALL ControlFlow_ref_tuple_u64_Size core_option_OptionTry_branch_ref_tuple_u64_
 SMALL uint64_t atlas_sheet_sheets_fn_numbers_of_map_FnMut_call_mut(void *given_1, const tuple_u64_Size *given_2);
 SMALL Result_ptr std_heap_GlobalAllocator_grow_Option_Placed(const void *self, void *ptr, uint64_t len, uint64_t _old_cap,
         uint64_t new_cap);
+SMALL uint32_t core_int_i32_cast_unsigned(uint32_t given_1);
 SMALL tuple_Slots_CacheChange_u64 core_slice_sort_small_insert_each_Allocation(Slots_CacheChange_u64 row, uint64_t from);
 SMALL Reverse_tuple_u64_u32 atlas_allocator_atlas_rearranging_fn_sort_for_refit_sort_unstable_by_key(void *given_1,
         const atlas_model_Allocation *given_2);
@@ -22243,49 +22255,26 @@ SMALL Option_Found atlas_search_search_pick_Slot(slice_Slot entries, const atlas
         atlas_model_Size size) {
     atlas_search_Place place_5;
     uint64_t n_6;
+    bool is_7;
     atlas_search_Mask mask_8;
     atlas_search_Mask mask_9;
     uint64_t n_10;
     atlas_search_Best best_11;
     uint64_t n_12;
-    bool is_13;
-    atlas_search_Link link_14;
-    atlas_model_Rectangle rectangle_15;
-    uint64_t n_16;
-    atlas_search_Mask mask_17;
-    Option_Link option_21;
-    atlas_search_Mask mask_29;
-    atlas_search_Mask mask_32;
+    atlas_search_Mask mask_13;
+    atlas_search_Mask mask_16;
     place_5 = atlas_search_bands_Scale_place_for(options, size);
     n_6 = core_int_usize_max(place_5.row, place_5.column);
-    n_16 = atlas_search_bands_Scale_large(options);
-    mask_17 = atlas_search_table_Table_row(table, place_5.row);
-    mask_8 = atlas_search_masks_Mask_from(mask_17, place_5.column);
-    mask_32 = atlas_search_table_Table_column(table, place_5.column);
-    mask_9 = atlas_search_masks_Mask_from(mask_32, place_5.row + 1u);
+    n_12 = atlas_search_bands_Scale_large(options);
+    mask_13 = atlas_search_table_Table_row(table, place_5.row);
+    mask_8 = atlas_search_masks_Mask_from(mask_13, place_5.column);
+    mask_16 = atlas_search_table_Table_column(table, place_5.column);
+    mask_9 = atlas_search_masks_Mask_from(mask_16, place_5.row + 1u);
     n_10 = atlas_search_search_least_from(table, place_5, n_6, mask_8);
-    best_11 = atlas_search_best_Best_new(size, n_16 <= n_6);
-    for (;;) {
-        if (!(n_10 < 52u)) {
-            break;
-        }
-        n_12 = atlas_search_bands_Scale_end_after(options, n_10);
-        is_13 = atlas_search_search_search_before_Slot(entries, table, options, place_5, mask_8, mask_9, n_12, &best_11);
-        option_21 = atlas_search_best_Best_found(&best_11);
-        if (option_21.tag == 1u /* Some */) {
-            link_14 = option_21.Some.field_0;
-            rectangle_15 = atlas_store_slots_entry_SlotEntry_rectangle(((atlas_store_Slot *)entries.at + (uint64_t)link_14.number));
-            return new_Option_Found_Some(new_atlas_search_Found(rectangle_15, link_14));
-        }
-        mask_8 = atlas_search_masks_Mask_from(mask_8, n_12);
-        mask_9 = atlas_search_masks_Mask_from(mask_9, n_12);
-        if (is_13) {
-            mask_29 = atlas_search_masks_Mask_or(mask_8, mask_9);
-            if (atlas_search_masks_Mask_is_empty(mask_29)) {
-                return new_Option_Found_None();
-            }
-        }
-        n_10 = n_12;
+    is_7 = n_12 <= n_6;
+    if (n_10 < 52u) {
+        best_11 = atlas_search_best_Best_new(size, is_7);
+        return atlas_search_search_pick_from_Slot(entries, table, options, place_5, n_10, mask_8, mask_9, best_11);
     }
     if (atlas_search_table_Table_is_grown(table)) {
         return new_Option_Found_None();
@@ -25797,78 +25786,60 @@ SMALL atlas_search_Best atlas_search_best_Best_new(atlas_model_Size size, bool i
             4294967295u, new_atlas_search_Link(4294967295u));
 }
 
-/* The border of a class after a row or a column.
- * crates/atlas_search/src/bands.rt
- */
-SMALL uint64_t atlas_search_bands_Scale_end_after(const atlas_search_Scale *self, uint64_t first) {
-    uint64_t n_5;
-    uint64_t n_8;
-    if (first < self->borders.small_) {
-        n_5 = self->borders.small_;
-    } else {
-        if (first < self->borders.large) {
-            n_8 = self->borders.large;
-        } else {
-            n_8 = 52u;
-        }
-        n_5 = n_8;
-    }
-    return n_5;
-}
-
-/* Shows the free entries before a row and a column to a search that knows of none: those with an equal side first, which
- * stand in these columns of the request's own row and these rows of its column, and the others only if none of those is
- * free. Answers whether it saw that no list to the right and below has a slot.
+/* The free entry that a request takes, where each list with a slot reaches a row or column, and these columns of its own row and
+ * these rows of its own column may have one.
  * crates/atlas_search/src/search.rt
  */
-SMALL bool atlas_search_search_search_before_Slot(slice_Slot entries, const atlas_search_Table *table, const atlas_search_Scale *options,
-        atlas_search_Place own, atlas_search_Mask columns, atlas_search_Mask rows, uint64_t end, atlas_search_Best *best) {
+SMALL Option_Found atlas_search_search_pick_from_Slot(slice_Slot entries, const atlas_search_Table *table,
+        const atlas_search_Scale *options, atlas_search_Place own, uint64_t least, atlas_search_Mask columns, atlas_search_Mask rows,
+        atlas_search_Best begun) {
+    Option_Found result;
     uint64_t n_9;
     atlas_search_Mask mask_10;
-    atlas_search_Mask mask_12;
-    atlas_search_Mask mask_19;
-    atlas_search_Mask mask_21;
-    atlas_search_Mask mask_22;
-    mask_12 = atlas_search_masks_Mask_below(columns, end);
-    atlas_search_search_search_row_Slot(entries, table, own.row, mask_12, best);
-    mask_19 = atlas_search_masks_Mask_below(rows, end);
-    atlas_search_search_search_column_Slot(entries, table, own.column, mask_19, best);
-    if (atlas_search_best_Best_has_equal_side(best)) {
-        return false;
+    atlas_search_Mask mask_11;
+    atlas_search_Link link_12;
+    atlas_model_Rectangle rectangle_13;
+    atlas_search_Best best_14;
+    bool is_15;
+    atlas_search_Link link_16;
+    atlas_model_Rectangle rectangle_17;
+    Option_Link option_18;
+    Option_Link option_25;
+    atlas_search_Mask mask_34;
+    n_9 = atlas_search_bands_Scale_end_after(options, least);
+    mask_10 = atlas_search_masks_Mask_below(columns, n_9);
+    mask_11 = atlas_search_masks_Mask_below(rows, n_9);
+    option_18 = atlas_search_search_pick_alone_Slot(entries, table, own, mask_10, mask_11, begun);
+    if (option_18.tag == 1u /* Some */) {
+        link_12 = option_18.Some.field_0;
+        rectangle_13 = atlas_store_slots_entry_SlotEntry_rectangle(((atlas_store_Slot *)entries.at + (uint64_t)link_12.number));
+        return new_Option_Found_Some(new_atlas_search_Found(rectangle_13, link_12));
     }
-    n_9 = own.column + 1u;
-    mask_21 = atlas_search_search_rows_with(table, n_9, 52u);
-    mask_10 = atlas_search_masks_Mask_from(mask_21, own.row + 1u);
-    mask_22 = atlas_search_masks_Mask_below(mask_10, end);
-    atlas_search_search_search_rows_Slot(entries, table, options, mask_22, n_9, end, best);
-    return atlas_search_masks_Mask_is_empty(mask_10);
-}
-
-/* The entry of the best of the boxes shown.
- * crates/atlas_search/src/best.rt
- */
-SMALL Option_Link atlas_search_best_Best_found(const atlas_search_Best *self) {
-    Option_Link option_4;
-    if (self->rank == 2147483647u) {
-        option_4 = new_Option_Link_None();
-    } else {
-        option_4 = new_Option_Link_Some(self->at);
+    best_14 = begun;
+    for (;;) {
+        is_15 = atlas_search_search_search_before_Slot(entries, table, options, own, mask_10, mask_11, n_9, &best_14);
+        option_25 = atlas_search_best_Best_found(&best_14);
+        if (option_25.tag == 1u /* Some */) {
+            link_16 = option_25.Some.field_0;
+            rectangle_17 = atlas_store_slots_entry_SlotEntry_rectangle(((atlas_store_Slot *)entries.at + (uint64_t)link_16.number));
+            return new_Option_Found_Some(new_atlas_search_Found(rectangle_17, link_16));
+        }
+        if (52u <= n_9) {
+            return new_Option_Found_None();
+        }
+        columns = atlas_search_masks_Mask_from(columns, n_9);
+        rows = atlas_search_masks_Mask_from(rows, n_9);
+        if (is_15) {
+            mask_34 = atlas_search_masks_Mask_or(columns, rows);
+            if (atlas_search_masks_Mask_is_empty(mask_34)) {
+                return new_Option_Found_None();
+            }
+        }
+        n_9 = atlas_search_bands_Scale_end_after(options, n_9);
+        mask_10 = atlas_search_masks_Mask_below(columns, n_9);
+        mask_11 = atlas_search_masks_Mask_below(rows, n_9);
     }
-    return option_4;
-}
-
-/* The numbers of one of two sets.
- * crates/atlas_search/src/masks.rt
- */
-SMALL atlas_search_Mask atlas_search_masks_Mask_or(atlas_search_Mask self, atlas_search_Mask other) {
-    return new_atlas_search_Mask(self.bits | other.bits);
-}
-
-/* Whether there is no number in the set.
- * crates/atlas_search/src/masks.rt
- */
-SMALL bool atlas_search_masks_Mask_is_empty(atlas_search_Mask self) {
-    return self.bits == 0u;
+    return result;
 }
 
 /* The free entry that a request of this rounded size takes, where only the first few slots come first in lists.
@@ -26345,49 +26316,26 @@ SMALL Option_Found atlas_search_search_pick_FreeBox(slice_FreeBox entries, const
         const atlas_search_Scale *options, atlas_model_Size size) {
     atlas_search_Place place_5;
     uint64_t n_6;
+    bool is_7;
     atlas_search_Mask mask_8;
     atlas_search_Mask mask_9;
     uint64_t n_10;
     atlas_search_Best best_11;
     uint64_t n_12;
-    bool is_13;
-    atlas_search_Link link_14;
-    atlas_model_Rectangle rectangle_15;
-    uint64_t n_16;
-    atlas_search_Mask mask_17;
-    Option_Link option_21;
-    atlas_search_Mask mask_29;
-    atlas_search_Mask mask_32;
+    atlas_search_Mask mask_13;
+    atlas_search_Mask mask_16;
     place_5 = atlas_search_bands_Scale_place_for(options, size);
     n_6 = core_int_usize_max(place_5.row, place_5.column);
-    n_16 = atlas_search_bands_Scale_large(options);
-    mask_17 = atlas_search_table_Table_row(table, place_5.row);
-    mask_8 = atlas_search_masks_Mask_from(mask_17, place_5.column);
-    mask_32 = atlas_search_table_Table_column(table, place_5.column);
-    mask_9 = atlas_search_masks_Mask_from(mask_32, place_5.row + 1u);
+    n_12 = atlas_search_bands_Scale_large(options);
+    mask_13 = atlas_search_table_Table_row(table, place_5.row);
+    mask_8 = atlas_search_masks_Mask_from(mask_13, place_5.column);
+    mask_16 = atlas_search_table_Table_column(table, place_5.column);
+    mask_9 = atlas_search_masks_Mask_from(mask_16, place_5.row + 1u);
     n_10 = atlas_search_search_least_from(table, place_5, n_6, mask_8);
-    best_11 = atlas_search_best_Best_new(size, n_16 <= n_6);
-    for (;;) {
-        if (!(n_10 < 52u)) {
-            break;
-        }
-        n_12 = atlas_search_bands_Scale_end_after(options, n_10);
-        is_13 = atlas_search_search_search_before_FreeBox(entries, table, options, place_5, mask_8, mask_9, n_12, &best_11);
-        option_21 = atlas_search_best_Best_found(&best_11);
-        if (option_21.tag == 1u /* Some */) {
-            link_14 = option_21.Some.field_0;
-            rectangle_15 = guillotiere_simple_boxes_FreeBoxEntry_rectangle(((guillotiere_FreeBox *)entries.at + (uint64_t)link_14.number));
-            return new_Option_Found_Some(new_atlas_search_Found(rectangle_15, link_14));
-        }
-        mask_8 = atlas_search_masks_Mask_from(mask_8, n_12);
-        mask_9 = atlas_search_masks_Mask_from(mask_9, n_12);
-        if (is_13) {
-            mask_29 = atlas_search_masks_Mask_or(mask_8, mask_9);
-            if (atlas_search_masks_Mask_is_empty(mask_29)) {
-                return new_Option_Found_None();
-            }
-        }
-        n_10 = n_12;
+    is_7 = n_12 <= n_6;
+    if (n_10 < 52u) {
+        best_11 = atlas_search_best_Best_new(size, is_7);
+        return atlas_search_search_pick_from_FreeBox(entries, table, options, place_5, n_10, mask_8, mask_9, best_11);
     }
     if (atlas_search_table_Table_is_grown(table)) {
         return new_Option_Found_None();
@@ -30396,6 +30344,13 @@ SMALL atlas_search_Mask atlas_search_marks_Marks_column(const atlas_search_Marks
     return *((atlas_search_Mask *)(void *)&self->columns + j);
 }
 
+/* The numbers of one of two sets.
+ * crates/atlas_search/src/masks.rt
+ */
+SMALL atlas_search_Mask atlas_search_masks_Mask_or(atlas_search_Mask self, atlas_search_Mask other) {
+    return new_atlas_search_Mask(self.bits | other.bits);
+}
+
 /* By exclusive or with this a margin above 0 is its rank: of a large request the greater the lesser.
  * crates/atlas_search/src/best.rt
  */
@@ -30409,6 +30364,25 @@ SMALL uint32_t atlas_search_best_flip_of(bool is_large) {
     return n_3;
 }
 
+/* The border of a class after a row or a column.
+ * crates/atlas_search/src/bands.rt
+ */
+SMALL uint64_t atlas_search_bands_Scale_end_after(const atlas_search_Scale *self, uint64_t first) {
+    uint64_t n_5;
+    uint64_t n_8;
+    if (first < self->borders.small_) {
+        n_5 = self->borders.small_;
+    } else {
+        if (first < self->borders.large) {
+            n_8 = self->borders.large;
+        } else {
+            n_8 = 52u;
+        }
+        n_5 = n_8;
+    }
+    return n_5;
+}
+
 /* The numbers of the set below one.
  * crates/atlas_search/src/masks.rt
  */
@@ -30416,106 +30390,87 @@ SMALL atlas_search_Mask atlas_search_masks_Mask_below(atlas_search_Mask self, ui
     return new_atlas_search_Mask(self.bits & ((UINT64_C(1) << (k & 63u)) - 1u));
 }
 
-/* Shows lists of a row to a search.
+/* The entry that a request takes at once: of the lists before a row and a column that are left in its own row and column one
+ * alone may have a slot, that is in its row, and what is first there has an equal side.
  * crates/atlas_search/src/search.rt
  */
-SMALL void atlas_search_search_search_row_Slot(slice_Slot entries, const atlas_search_Table *table, uint64_t row,
-        atlas_search_Mask columns, atlas_search_Best *best) {
-    atlas_search_Mask mask_6;
-    Option_u64 option_8;
-    mask_6 = columns;
-    for (;;) {
-        option_8 = atlas_search_masks_Mask_take_first(&mask_6);
-        if (option_8.tag == 1u /* Some */) {
-            atlas_search_search_search_list_Slot(entries, table, new_atlas_search_Place(row, option_8.Some.field_0), best);
-        } else {
-            break;
-        }
-    }
-}
-
-/* Shows lists of a column to a search.
- * crates/atlas_search/src/search.rt
- */
-SMALL void atlas_search_search_search_column_Slot(slice_Slot entries, const atlas_search_Table *table, uint64_t column,
-        atlas_search_Mask rows, atlas_search_Best *best) {
-    atlas_search_Mask mask_6;
-    Option_u64 option_8;
-    mask_6 = rows;
-    for (;;) {
-        option_8 = atlas_search_masks_Mask_take_first(&mask_6);
-        if (option_8.tag == 1u /* Some */) {
-            atlas_search_search_search_list_Slot(entries, table, new_atlas_search_Place(option_8.Some.field_0, column), best);
-        } else {
-            break;
-        }
-    }
-}
-
-/* Whether the best has an equal side.
- * crates/atlas_search/src/best.rt
- */
-SMALL bool atlas_search_best_Best_has_equal_side(const atlas_search_Best *self) {
-    return self->rank == 0u;
-}
-
-/* The rows with a list that isn't empty in these columns.
- * crates/atlas_search/src/search.rt
- */
-SMALL atlas_search_Mask atlas_search_search_rows_with(const atlas_search_Table *table, uint64_t first, uint64_t end) {
-    atlas_search_Mask mask_4;
-    uint64_t n_5;
+SMALL Option_Link atlas_search_search_pick_alone_Slot(slice_Slot entries, const atlas_search_Table *table, atlas_search_Place own,
+        atlas_search_Mask in_row, atlas_search_Mask in_column, atlas_search_Best begun) {
     atlas_search_Mask mask_7;
-    mask_4 = atlas_search_masks_Mask_none();
-    n_5 = first;
-    if (std_alloc_vec_Vec_is_empty_Link(&table->marks)) {
-        for (;;) {
-            if (!(n_5 < end)) {
-                break;
-            }
-            mask_7 = atlas_search_table_Table_column(table, n_5);
-            mask_4 = atlas_search_masks_Mask_or(mask_4, mask_7);
-            n_5 = n_5 + 1u;
-        }
+    uint64_t n_8;
+    atlas_search_Link link_9;
+    atlas_search_Best best_10;
+    Option_u64 option_11;
+    bool is_13;
+    atlas_search_Mask mask_14;
+    mask_7 = in_row;
+    option_11 = atlas_search_masks_Mask_take_first(&mask_7);
+    if (option_11.tag == 1u /* Some */) {
+        n_8 = option_11.Some.field_0;
     } else {
-        for (;;) {
-            if (!(n_5 < end)) {
-                break;
-            }
-            mask_7 = atlas_search_table_Table_column(table, n_5);
-            mask_4 = atlas_search_masks_Mask_or(mask_4, mask_7);
-            n_5 = n_5 + 1u;
-        }
+        return new_Option_Link_None();
     }
-    return mask_4;
+    mask_14 = atlas_search_masks_Mask_or(mask_7, in_column);
+    is_13 = atlas_search_masks_Mask_is_empty(mask_14);
+    if (!is_13) {
+        return new_Option_Link_None();
+    }
+    link_9 = atlas_search_table_Table_stored_head(table, new_atlas_search_Place(own.row, n_8));
+    if (entries.len <= (uint64_t)link_9.number) {
+        return new_Option_Link_None();
+    }
+    best_10 = begun;
+    if (atlas_search_search_show_entry_Slot(((atlas_store_Slot *)entries.at + (uint64_t)link_9.number), link_9, &best_10)) {
+        return new_Option_Link_None();
+    }
+    if (atlas_search_best_Best_has_equal_side(&best_10)) {
+        return atlas_search_best_Best_found(&best_10);
+    }
+    return new_Option_Link_None();
 }
 
-/* Shows lists of these rows to a search, from a column on and before another.
+/* Shows the free entries before a row and a column to a search that knows of none: those with an equal side first, which
+ * stand in these columns of the request's own row and these rows of its column, and the others only if none of those is
+ * free. Answers whether it saw that no list to the right and below has a slot.
  * crates/atlas_search/src/search.rt
  */
-SMALL void atlas_search_search_search_rows_Slot(slice_Slot entries, const atlas_search_Table *table, const atlas_search_Scale *options,
-        atlas_search_Mask rows, uint64_t first, uint64_t end, atlas_search_Best *best) {
-    atlas_search_Mask mask_8;
+SMALL bool atlas_search_search_search_before_Slot(slice_Slot entries, const atlas_search_Table *table, const atlas_search_Scale *options,
+        atlas_search_Place own, atlas_search_Mask in_row, atlas_search_Mask in_column, uint64_t end, atlas_search_Best *best) {
     uint64_t n_9;
     atlas_search_Mask mask_10;
-    atlas_search_Mask mask_11;
-    Option_u64 option_12;
-    atlas_search_Mask mask_14;
-    atlas_search_Mask mask_15;
-    mask_8 = rows;
-    for (;;) {
-        option_12 = atlas_search_masks_Mask_take_first(&mask_8);
-        if (option_12.tag == 1u /* Some */) {
-            n_9 = option_12.Some.field_0;
-            mask_15 = atlas_search_table_Table_row(table, n_9);
-            mask_14 = atlas_search_masks_Mask_from(mask_15, first);
-            mask_10 = atlas_search_masks_Mask_below(mask_14, end);
-            mask_11 = atlas_search_search_columns_near(options, n_9, mask_10, best);
-            atlas_search_search_search_larger_Slot(entries, table, n_9, mask_11, best);
-        } else {
-            break;
-        }
+    atlas_search_Mask mask_16;
+    atlas_search_Mask mask_20;
+    atlas_search_search_search_row_Slot(entries, table, own.row, in_row, best);
+    atlas_search_search_search_column_Slot(entries, table, own.column, in_column, best);
+    if (atlas_search_best_Best_has_equal_side(best)) {
+        return false;
     }
+    n_9 = own.column + 1u;
+    mask_16 = atlas_search_search_rows_with(table, n_9, 52u);
+    mask_10 = atlas_search_masks_Mask_from(mask_16, own.row + 1u);
+    mask_20 = atlas_search_masks_Mask_below(mask_10, end);
+    atlas_search_search_search_rows_Slot(entries, table, options, mask_20, n_9, end, best);
+    return atlas_search_masks_Mask_is_empty(mask_10);
+}
+
+/* The entry of the best of the boxes shown.
+ * crates/atlas_search/src/best.rt
+ */
+SMALL Option_Link atlas_search_best_Best_found(const atlas_search_Best *self) {
+    Option_Link option_4;
+    if (self->rank == 2147483647u) {
+        option_4 = new_Option_Link_None();
+    } else {
+        option_4 = new_Option_Link_Some(self->at);
+    }
+    return option_4;
+}
+
+/* Whether there is no number in the set.
+ * crates/atlas_search/src/masks.rt
+ */
+SMALL bool atlas_search_masks_Mask_is_empty(atlas_search_Mask self) {
+    return self.bits == 0u;
 }
 
 /* Shows the lists before a row and a column to a search, where only the first few slots come first in lists.
@@ -30893,38 +30848,60 @@ SMALL void std_alloc_vec_Vec_truncate_within_FreeBox(Vec_Slot *self, uint64_t n)
     std_alloc_vec_Vec_attach_CacheChange_u64(self, slots_4, tuple_7.field_1, n);
 }
 
-/* Shows the free entries before a row and a column to a search that knows of none: those with an equal side first, which
- * stand in these columns of the request's own row and these rows of its column, and the others only if none of those is
- * free. Answers whether it saw that no list to the right and below has a slot.
+/* The free entry that a request takes, where each list with a slot reaches a row or column, and these columns of its own row and
+ * these rows of its own column may have one.
  * crates/atlas_search/src/search.rt
  */
-SMALL bool atlas_search_search_search_before_FreeBox(slice_FreeBox entries, const atlas_search_Table *table,
-        const atlas_search_Scale *options, atlas_search_Place own, atlas_search_Mask columns, atlas_search_Mask rows, uint64_t end,
-        atlas_search_Best *best) {
+SMALL Option_Found atlas_search_search_pick_from_FreeBox(slice_FreeBox entries, const atlas_search_Table *table,
+        const atlas_search_Scale *options, atlas_search_Place own, uint64_t least, atlas_search_Mask columns, atlas_search_Mask rows,
+        atlas_search_Best begun) {
+    Option_Found result;
     uint64_t n_9;
     atlas_search_Mask mask_10;
-    atlas_search_Mask mask_12;
-    atlas_search_Mask mask_19;
-    atlas_search_Mask mask_21;
-    atlas_search_Mask mask_22;
-    mask_12 = atlas_search_masks_Mask_below(columns, end);
-    atlas_search_search_search_row_FreeBox(entries, table, own.row, mask_12, best);
-    mask_19 = atlas_search_masks_Mask_below(rows, end);
-    atlas_search_search_search_column_FreeBox(entries, table, own.column, mask_19, best);
-    if (atlas_search_best_Best_has_equal_side(best)) {
-        return false;
+    atlas_search_Mask mask_11;
+    atlas_search_Link link_12;
+    atlas_model_Rectangle rectangle_13;
+    atlas_search_Best best_14;
+    bool is_15;
+    atlas_search_Link link_16;
+    atlas_model_Rectangle rectangle_17;
+    Option_Link option_18;
+    Option_Link option_25;
+    atlas_search_Mask mask_34;
+    n_9 = atlas_search_bands_Scale_end_after(options, least);
+    mask_10 = atlas_search_masks_Mask_below(columns, n_9);
+    mask_11 = atlas_search_masks_Mask_below(rows, n_9);
+    option_18 = atlas_search_search_pick_alone_FreeBox(entries, table, own, mask_10, mask_11, begun);
+    if (option_18.tag == 1u /* Some */) {
+        link_12 = option_18.Some.field_0;
+        rectangle_13 = guillotiere_simple_boxes_FreeBoxEntry_rectangle(((guillotiere_FreeBox *)entries.at + (uint64_t)link_12.number));
+        return new_Option_Found_Some(new_atlas_search_Found(rectangle_13, link_12));
     }
-    n_9 = own.column + 1u;
-    mask_21 = atlas_search_search_rows_with(table, n_9, 52u);
-    mask_10 = atlas_search_masks_Mask_from(mask_21, own.row + 1u);
-    mask_22 = atlas_search_masks_Mask_below(mask_10, end);
-    atlas_search_search_search_rows_FreeBox(entries, table, options, mask_22, n_9, end, best);
-    return atlas_search_masks_Mask_is_empty(mask_10);
-}
-
-/* crates/guillotiere/src/simple/boxes.rt */
-SMALL atlas_model_Rectangle guillotiere_simple_boxes_FreeBoxEntry_rectangle(const guillotiere_FreeBox *self) {
-    return self->area;
+    best_14 = begun;
+    for (;;) {
+        is_15 = atlas_search_search_search_before_FreeBox(entries, table, options, own, mask_10, mask_11, n_9, &best_14);
+        option_25 = atlas_search_best_Best_found(&best_14);
+        if (option_25.tag == 1u /* Some */) {
+            link_16 = option_25.Some.field_0;
+            rectangle_17 = guillotiere_simple_boxes_FreeBoxEntry_rectangle(((guillotiere_FreeBox *)entries.at + (uint64_t)link_16.number));
+            return new_Option_Found_Some(new_atlas_search_Found(rectangle_17, link_16));
+        }
+        if (52u <= n_9) {
+            return new_Option_Found_None();
+        }
+        columns = atlas_search_masks_Mask_from(columns, n_9);
+        rows = atlas_search_masks_Mask_from(rows, n_9);
+        if (is_15) {
+            mask_34 = atlas_search_masks_Mask_or(columns, rows);
+            if (atlas_search_masks_Mask_is_empty(mask_34)) {
+                return new_Option_Found_None();
+            }
+        }
+        n_9 = atlas_search_bands_Scale_end_after(options, n_9);
+        mask_10 = atlas_search_masks_Mask_below(columns, n_9);
+        mask_11 = atlas_search_masks_Mask_below(rows, n_9);
+    }
+    return result;
 }
 
 /* The free entry that a request of this rounded size takes, where only the first few slots come first in lists.
@@ -35372,51 +35349,120 @@ SMALL uint64_t atlas_search_bands_passed(uint32_t side, uint32_t threshold) {
     return n_4;
 }
 
-/* Shows the list at a place to a search.
+/* Shows an entry to a search. Answers whether one that hangs below it may be better: where it is a fork, since else those have
+ * its size and come no earlier, and where neither it nor a best that comes no later has an equal side.
  * crates/atlas_search/src/search.rt
  */
-SMALL void atlas_search_search_search_list_Slot(slice_Slot entries, const atlas_search_Table *table, atlas_search_Place place,
-        atlas_search_Best *best) {
-    atlas_search_Link link_6;
-    link_6 = atlas_search_table_Table_stored_head(table, place);
-    atlas_search_search_show_list_Slot(entries, link_6, best);
+SMALL bool atlas_search_search_show_entry_Slot(const atlas_store_Slot *entry, atlas_search_Link at, atlas_search_Best *best) {
+    atlas_model_Rectangle rectangle_4;
+    uint64_t n_5;
+    rectangle_4 = atlas_store_slots_entry_SlotEntry_rectangle(entry);
+    n_5 = atlas_search_best_corner(rectangle_4);
+    if (atlas_search_best_Best_passes(best, n_5)) {
+        return false;
+    }
+    if (atlas_search_best_Best_look(best, rectangle_4, n_5, at)) {
+        return false;
+    }
+    return atlas_store_slots_entry_SlotEntry_is_fork(entry);
 }
 
-/* Of the columns of a row those with a list that may hold a better box than the best.
- * crates/atlas_search/src/search.rt
+/* Whether the best has an equal side.
+ * crates/atlas_search/src/best.rt
  */
-SMALL atlas_search_Mask atlas_search_search_columns_near(const atlas_search_Scale *options, uint64_t row, atlas_search_Mask columns,
-        const atlas_search_Best *best) {
-    atlas_model_Size size_5;
-    atlas_search_Place place_6;
-    Option_Size option_7;
-    option_7 = atlas_search_best_Best_farthest(best);
-    if (option_7.tag == 1u /* Some */) {
-        size_5 = option_7.Some.field_0;
-    } else {
-        return columns;
-    }
-    place_6 = atlas_search_bands_Scale_place_for(options, size_5);
-    if (row <= place_6.row) {
-        return columns;
-    }
-    return atlas_search_masks_Mask_below(columns, place_6.column + 1u);
+SMALL bool atlas_search_best_Best_has_equal_side(const atlas_search_Best *self) {
+    return self->rank == 0u;
 }
 
-/* Shows lists of a row that lie to the right of a request's own and below it to a search.
+/* Shows lists of a row to a search.
  * crates/atlas_search/src/search.rt
  */
-SMALL void atlas_search_search_search_larger_Slot(slice_Slot entries, const atlas_search_Table *table, uint64_t row,
+SMALL void atlas_search_search_search_row_Slot(slice_Slot entries, const atlas_search_Table *table, uint64_t row,
         atlas_search_Mask columns, atlas_search_Best *best) {
     atlas_search_Mask mask_6;
     Option_u64 option_8;
-    atlas_search_Link link_11;
     mask_6 = columns;
     for (;;) {
         option_8 = atlas_search_masks_Mask_take_first(&mask_6);
         if (option_8.tag == 1u /* Some */) {
-            link_11 = atlas_search_table_Table_stored_head(table, new_atlas_search_Place(row, option_8.Some.field_0));
-            atlas_search_search_show_larger_Slot(entries, link_11, best);
+            atlas_search_search_search_list_Slot(entries, table, new_atlas_search_Place(row, option_8.Some.field_0), best);
+        } else {
+            break;
+        }
+    }
+}
+
+/* Shows lists of a column to a search.
+ * crates/atlas_search/src/search.rt
+ */
+SMALL void atlas_search_search_search_column_Slot(slice_Slot entries, const atlas_search_Table *table, uint64_t column,
+        atlas_search_Mask rows, atlas_search_Best *best) {
+    atlas_search_Mask mask_6;
+    Option_u64 option_8;
+    mask_6 = rows;
+    for (;;) {
+        option_8 = atlas_search_masks_Mask_take_first(&mask_6);
+        if (option_8.tag == 1u /* Some */) {
+            atlas_search_search_search_list_Slot(entries, table, new_atlas_search_Place(option_8.Some.field_0, column), best);
+        } else {
+            break;
+        }
+    }
+}
+
+/* The rows with a list that isn't empty in these columns.
+ * crates/atlas_search/src/search.rt
+ */
+SMALL atlas_search_Mask atlas_search_search_rows_with(const atlas_search_Table *table, uint64_t first, uint64_t end) {
+    atlas_search_Mask mask_4;
+    uint64_t n_5;
+    atlas_search_Mask mask_7;
+    mask_4 = atlas_search_masks_Mask_none();
+    n_5 = first;
+    if (std_alloc_vec_Vec_is_empty_Link(&table->marks)) {
+        for (;;) {
+            if (!(n_5 < end)) {
+                break;
+            }
+            mask_7 = atlas_search_table_Table_column(table, n_5);
+            mask_4 = atlas_search_masks_Mask_or(mask_4, mask_7);
+            n_5 = n_5 + 1u;
+        }
+    } else {
+        for (;;) {
+            if (!(n_5 < end)) {
+                break;
+            }
+            mask_7 = atlas_search_table_Table_column(table, n_5);
+            mask_4 = atlas_search_masks_Mask_or(mask_4, mask_7);
+            n_5 = n_5 + 1u;
+        }
+    }
+    return mask_4;
+}
+
+/* Shows lists of these rows to a search, from a column on and before another.
+ * crates/atlas_search/src/search.rt
+ */
+SMALL void atlas_search_search_search_rows_Slot(slice_Slot entries, const atlas_search_Table *table, const atlas_search_Scale *options,
+        atlas_search_Mask rows, uint64_t first, uint64_t end, atlas_search_Best *best) {
+    atlas_search_Mask mask_8;
+    uint64_t n_9;
+    atlas_search_Mask mask_10;
+    atlas_search_Mask mask_11;
+    Option_u64 option_12;
+    atlas_search_Mask mask_14;
+    atlas_search_Mask mask_15;
+    mask_8 = rows;
+    for (;;) {
+        option_12 = atlas_search_masks_Mask_take_first(&mask_8);
+        if (option_12.tag == 1u /* Some */) {
+            n_9 = option_12.Some.field_0;
+            mask_15 = atlas_search_table_Table_row(table, n_9);
+            mask_14 = atlas_search_masks_Mask_from(mask_15, first);
+            mask_10 = atlas_search_masks_Mask_below(mask_14, end);
+            mask_11 = atlas_search_search_columns_near(options, n_9, mask_10, best);
+            atlas_search_search_search_larger_Slot(entries, table, n_9, mask_11, best);
         } else {
             break;
         }
@@ -35766,68 +35812,73 @@ SMALL void std_alloc_vec_opened_drop_run_FreeBox(Slots_CacheChange_u64 *row, uin
     }
 }
 
-/* Shows lists of a row to a search.
+/* The entry that a request takes at once: of the lists before a row and a column that are left in its own row and column one
+ * alone may have a slot, that is in its row, and what is first there has an equal side.
  * crates/atlas_search/src/search.rt
  */
-SMALL void atlas_search_search_search_row_FreeBox(slice_FreeBox entries, const atlas_search_Table *table, uint64_t row,
-        atlas_search_Mask columns, atlas_search_Best *best) {
-    atlas_search_Mask mask_6;
-    Option_u64 option_8;
-    mask_6 = columns;
-    for (;;) {
-        option_8 = atlas_search_masks_Mask_take_first(&mask_6);
-        if (option_8.tag == 1u /* Some */) {
-            atlas_search_search_search_list_FreeBox(entries, table, new_atlas_search_Place(row, option_8.Some.field_0), best);
-        } else {
-            break;
-        }
+SMALL Option_Link atlas_search_search_pick_alone_FreeBox(slice_FreeBox entries, const atlas_search_Table *table, atlas_search_Place own,
+        atlas_search_Mask in_row, atlas_search_Mask in_column, atlas_search_Best begun) {
+    atlas_search_Mask mask_7;
+    uint64_t n_8;
+    atlas_search_Link link_9;
+    atlas_search_Best best_10;
+    Option_u64 option_11;
+    bool is_13;
+    atlas_search_Mask mask_14;
+    mask_7 = in_row;
+    option_11 = atlas_search_masks_Mask_take_first(&mask_7);
+    if (option_11.tag == 1u /* Some */) {
+        n_8 = option_11.Some.field_0;
+    } else {
+        return new_Option_Link_None();
     }
+    mask_14 = atlas_search_masks_Mask_or(mask_7, in_column);
+    is_13 = atlas_search_masks_Mask_is_empty(mask_14);
+    if (!is_13) {
+        return new_Option_Link_None();
+    }
+    link_9 = atlas_search_table_Table_stored_head(table, new_atlas_search_Place(own.row, n_8));
+    if (entries.len <= (uint64_t)link_9.number) {
+        return new_Option_Link_None();
+    }
+    best_10 = begun;
+    if (atlas_search_search_show_entry_FreeBox(((guillotiere_FreeBox *)entries.at + (uint64_t)link_9.number), link_9, &best_10)) {
+        return new_Option_Link_None();
+    }
+    if (atlas_search_best_Best_has_equal_side(&best_10)) {
+        return atlas_search_best_Best_found(&best_10);
+    }
+    return new_Option_Link_None();
 }
 
-/* Shows lists of a column to a search.
- * crates/atlas_search/src/search.rt
- */
-SMALL void atlas_search_search_search_column_FreeBox(slice_FreeBox entries, const atlas_search_Table *table, uint64_t column,
-        atlas_search_Mask rows, atlas_search_Best *best) {
-    atlas_search_Mask mask_6;
-    Option_u64 option_8;
-    mask_6 = rows;
-    for (;;) {
-        option_8 = atlas_search_masks_Mask_take_first(&mask_6);
-        if (option_8.tag == 1u /* Some */) {
-            atlas_search_search_search_list_FreeBox(entries, table, new_atlas_search_Place(option_8.Some.field_0, column), best);
-        } else {
-            break;
-        }
-    }
+/* crates/guillotiere/src/simple/boxes.rt */
+SMALL atlas_model_Rectangle guillotiere_simple_boxes_FreeBoxEntry_rectangle(const guillotiere_FreeBox *self) {
+    return self->area;
 }
 
-/* Shows lists of these rows to a search, from a column on and before another.
+/* Shows the free entries before a row and a column to a search that knows of none: those with an equal side first, which
+ * stand in these columns of the request's own row and these rows of its column, and the others only if none of those is
+ * free. Answers whether it saw that no list to the right and below has a slot.
  * crates/atlas_search/src/search.rt
  */
-SMALL void atlas_search_search_search_rows_FreeBox(slice_FreeBox entries, const atlas_search_Table *table,
-        const atlas_search_Scale *options, atlas_search_Mask rows, uint64_t first, uint64_t end, atlas_search_Best *best) {
-    atlas_search_Mask mask_8;
+SMALL bool atlas_search_search_search_before_FreeBox(slice_FreeBox entries, const atlas_search_Table *table,
+        const atlas_search_Scale *options, atlas_search_Place own, atlas_search_Mask in_row, atlas_search_Mask in_column, uint64_t end,
+        atlas_search_Best *best) {
     uint64_t n_9;
     atlas_search_Mask mask_10;
-    atlas_search_Mask mask_11;
-    Option_u64 option_12;
-    atlas_search_Mask mask_14;
-    atlas_search_Mask mask_15;
-    mask_8 = rows;
-    for (;;) {
-        option_12 = atlas_search_masks_Mask_take_first(&mask_8);
-        if (option_12.tag == 1u /* Some */) {
-            n_9 = option_12.Some.field_0;
-            mask_15 = atlas_search_table_Table_row(table, n_9);
-            mask_14 = atlas_search_masks_Mask_from(mask_15, first);
-            mask_10 = atlas_search_masks_Mask_below(mask_14, end);
-            mask_11 = atlas_search_search_columns_near(options, n_9, mask_10, best);
-            atlas_search_search_search_larger_FreeBox(entries, table, n_9, mask_11, best);
-        } else {
-            break;
-        }
+    atlas_search_Mask mask_16;
+    atlas_search_Mask mask_20;
+    atlas_search_search_search_row_FreeBox(entries, table, own.row, in_row, best);
+    atlas_search_search_search_column_FreeBox(entries, table, own.column, in_column, best);
+    if (atlas_search_best_Best_has_equal_side(best)) {
+        return false;
     }
+    n_9 = own.column + 1u;
+    mask_16 = atlas_search_search_rows_with(table, n_9, 52u);
+    mask_10 = atlas_search_masks_Mask_from(mask_16, own.row + 1u);
+    mask_20 = atlas_search_masks_Mask_below(mask_10, end);
+    atlas_search_search_search_rows_FreeBox(entries, table, options, mask_20, n_9, end, best);
+    return atlas_search_masks_Mask_is_empty(mask_10);
 }
 
 /* Shows the lists before a row and a column to a search, where only the first few slots come first in lists.
@@ -39909,31 +39960,18 @@ SMALL atlas_search_Links atlas_search_heap_links_at_Slot(slice_Slot entries, atl
     return new_atlas_search_Links(link_7, link_8, link_9);
 }
 
-/* What hangs below an entry becomes one heap, which hangs below `up`. Of a fork's two sides the top that comes first comes up.
+/* What hangs below an entry becomes one heap, which hangs below `up`: most often there is nothing.
  * crates/atlas_search/src/heap/leaving.rt
  */
 SMALL atlas_search_Link atlas_search_heap_leaving_leave_Slot(slice_Slot_2 entries, atlas_search_Link at, atlas_search_Link up) {
     atlas_search_Links links_4;
-    bool is_5;
-    atlas_search_Link link_6;
-    bool is_7;
-    atlas_search_Link link_19;
-    is_7 = atlas_search_heap_is_fork_Slot(new_slice_Slot(entries.at, entries.len), at);
-    if (!is_7) {
-        return atlas_search_heap_close_Slot(new_slice_Slot_2(entries.at, entries.len), at, up);
-    }
     links_4 = atlas_search_heap_links_at_Slot(new_slice_Slot(entries.at, entries.len), at);
-    is_5 = atlas_search_heap_leaving_is_left_first_Slot(new_slice_Slot(entries.at, entries.len), links_4.left, links_4.right);
-    if (is_5) {
-        link_19 = links_4.left;
-    } else {
-        link_19 = links_4.right;
+    if (links_4.left.number == 4294967295u) {
+        if (links_4.right.number == 4294967295u) {
+            return new_atlas_search_Link(4294967295u);
+        }
     }
-    link_6 = link_19;
-    if (link_6.number != 4294967295u) {
-        atlas_search_heap_leaving_lift_Slot(new_slice_Slot_2(entries.at, entries.len), up, links_4.left, links_4.right, is_5);
-    }
-    return link_6;
+    return atlas_search_heap_leaving_leave_some_Slot(new_slice_Slot_2(entries.at, entries.len), at, up);
 }
 
 /* Writes the three links of an entry.
@@ -40225,73 +40263,109 @@ SMALL void atlas_store_slots_lists_renew(slice_Slot_2 slots, atlas_search_Link a
     atlas_store_slots_write_node(new_slice_Slot_2(slots.at, slots.len), at, node_3);
 }
 
-/* A size such that no box is better than the best that is both wider and higher; None as long as none is known, where the
- * request is large and the best has no equal side, and where a side may pass what an `i32` can hold.
+/* The `min` of a box as one number, the greater the later the box comes: the y, and below it the x.
  * crates/atlas_search/src/best.rt
  */
-SMALL Option_Size atlas_search_best_Best_farthest(const atlas_search_Best *self) {
-    uint32_t n_10;
-    uint32_t n_17;
-    if (1073741824u <= self->reach) {
-        return new_Option_Size_None();
-    }
-    if (!((int32_t)1073741824u <= (int32_t)self->size.width)) {
-        if (!((int32_t)1073741824u <= (int32_t)self->size.height)) {
-            goto after_2;
-        }
-    }
-    return new_Option_Size_None();
-after_2:;
-    n_17 = atlas_search_best_longer(self->size.width, self->reach);
-    n_10 = atlas_search_best_longer(self->size.height, self->reach);
-    return new_Option_Size_Some(new_atlas_model_Size(n_17, n_10));
+SMALL uint64_t atlas_search_best_corner(atlas_model_Rectangle rectangle) {
+    return ((uint64_t)rectangle.min_.y * UINT64_C(4294967296)) + (uint64_t)rectangle.min_.x;
 }
 
-/* Shows a list of sizes that are larger than the request's, both sides, to a search. It may be enough to look at its first entry.
- * crates/atlas_search/src/search.rt
+/* Whether the best has an equal side and begins at this corner or before it: no box that begins there or later is
+ * better.
+ * crates/atlas_search/src/best.rt
  */
-SMALL void atlas_search_search_show_larger_Slot(slice_Slot entries, atlas_search_Link top, atlas_search_Best *best) {
-    const atlas_store_Slot *at_4;
-    atlas_model_Rectangle rectangle_5;
-    uint64_t n_6;
-    atlas_search_Cell cell_7;
-    atlas_model_Size size_17;
-    if (entries.len <= (uint64_t)top.number) {
-        return;
-    }
-    at_4 = ((atlas_store_Slot *)entries.at + (uint64_t)top.number);
-    rectangle_5 = atlas_store_slots_entry_SlotEntry_rectangle(at_4);
-    n_6 = atlas_search_best_corner(rectangle_5);
-    if (atlas_search_best_Best_passes_larger(best, n_6)) {
-        return;
-    }
-    atlas_search_best_Best_look_larger(best, rectangle_5, n_6, top);
-    if (atlas_store_slots_entry_SlotEntry_is_fork(at_4)) {
-        size_17 = atlas_search_cut_exact_size(rectangle_5);
-        cell_7 = atlas_search_cells_Cell_around(size_17);
-        if (atlas_search_best_Best_ends_in(best, cell_7, n_6)) {
-            return;
-        }
-        atlas_search_search_show_halves_Slot(entries, at_4, cell_7, best);
-    }
+SMALL bool atlas_search_best_Best_passes(const atlas_search_Best *self, uint64_t corner) {
+    return self->bar <= corner;
 }
 
-/* Shows an entry to a search. Answers whether one that hangs below it may be better: where it is a fork, since else those have
- * its size and come no earlier, and where neither it nor a best that comes no later has an equal side.
+/* Shows the box of an entry, which has this corner. Answers whether it is the best now and has an equal side: no box that begins there
+ * or later is better then.
+ * crates/atlas_search/src/best.rt
+ */
+SMALL bool atlas_search_best_Best_look(atlas_search_Best *self, atlas_model_Rectangle rectangle, uint64_t corner, atlas_search_Link at) {
+    uint32_t n_5;
+    Option_u32 option_6;
+    atlas_model_Size size_10;
+    bool is_11;
+    uint32_t n_12;
+    uint32_t n_13;
+    uint64_t n_14;
+    uint64_t n_18;
+    uint32_t n_19;
+    option_6 = atlas_search_best_Best_rank_ahead(self, rectangle, corner);
+    if (option_6.tag == 1u /* Some */) {
+        n_5 = option_6.Some.field_0;
+        size_10 = self->size;
+        is_11 = self->is_large;
+        n_12 = self->flip;
+        n_13 = n_5;
+        n_14 = corner;
+        if (n_5 == 0u) {
+            n_18 = corner;
+        } else {
+            n_18 = UINT64_C(18446744073709551615);
+        }
+        n_19 = atlas_search_best_reach_of(self->is_large, n_5);
+        *self = new_atlas_search_Best(size_10, is_11, n_12, n_13, n_14, n_18, n_19, at);
+        return n_5 == 0u;
+    }
+    return false;
+}
+
+/* crates/atlas_store/src/slots/entry.rt */
+SMALL bool atlas_store_slots_entry_SlotEntry_is_fork(const atlas_store_Slot *self) {
+    return self->is_fork;
+}
+
+/* Shows the list at a place to a search.
  * crates/atlas_search/src/search.rt
  */
-SMALL bool atlas_search_search_show_entry_Slot(const atlas_store_Slot *entry, atlas_search_Link at, atlas_search_Best *best) {
-    atlas_model_Rectangle rectangle_4;
-    uint64_t n_5;
-    rectangle_4 = atlas_store_slots_entry_SlotEntry_rectangle(entry);
-    n_5 = atlas_search_best_corner(rectangle_4);
-    if (atlas_search_best_Best_passes(best, n_5)) {
-        return false;
+SMALL void atlas_search_search_search_list_Slot(slice_Slot entries, const atlas_search_Table *table, atlas_search_Place place,
+        atlas_search_Best *best) {
+    atlas_search_Link link_6;
+    link_6 = atlas_search_table_Table_stored_head(table, place);
+    atlas_search_search_show_list_Slot(entries, link_6, best);
+}
+
+/* Of the columns of a row those with a list that may hold a better box than the best.
+ * crates/atlas_search/src/search.rt
+ */
+SMALL atlas_search_Mask atlas_search_search_columns_near(const atlas_search_Scale *options, uint64_t row, atlas_search_Mask columns,
+        const atlas_search_Best *best) {
+    atlas_model_Size size_5;
+    atlas_search_Place place_6;
+    Option_Size option_7;
+    option_7 = atlas_search_best_Best_farthest(best);
+    if (option_7.tag == 1u /* Some */) {
+        size_5 = option_7.Some.field_0;
+    } else {
+        return columns;
     }
-    if (atlas_search_best_Best_look(best, rectangle_4, n_5, at)) {
-        return false;
+    place_6 = atlas_search_bands_Scale_place_for(options, size_5);
+    if (row <= place_6.row) {
+        return columns;
     }
-    return atlas_store_slots_entry_SlotEntry_is_fork(entry);
+    return atlas_search_masks_Mask_below(columns, place_6.column + 1u);
+}
+
+/* Shows lists of a row that lie to the right of a request's own and below it to a search.
+ * crates/atlas_search/src/search.rt
+ */
+SMALL void atlas_search_search_search_larger_Slot(slice_Slot entries, const atlas_search_Table *table, uint64_t row,
+        atlas_search_Mask columns, atlas_search_Best *best) {
+    atlas_search_Mask mask_6;
+    Option_u64 option_8;
+    atlas_search_Link link_11;
+    mask_6 = columns;
+    for (;;) {
+        option_8 = atlas_search_masks_Mask_take_first(&mask_6);
+        if (option_8.tag == 1u /* Some */) {
+            link_11 = atlas_search_table_Table_stored_head(table, new_atlas_search_Place(row, option_8.Some.field_0));
+            atlas_search_search_show_larger_Slot(entries, link_11, best);
+        } else {
+            break;
+        }
+    }
 }
 
 /* Shows what hangs below a fork of sizes of a cell to a search, but for what can't be the best: of the halves only those are entered that
@@ -40628,30 +40702,82 @@ SMALL void core_mem_drop_FreeBox(guillotiere_FreeBox x) {
     guillotiere_c_Destruct_none_drop_FreeBox(x);
 }
 
-/* Shows the list at a place to a search.
+/* Shows an entry to a search. Answers whether one that hangs below it may be better: where it is a fork, since else those have
+ * its size and come no earlier, and where neither it nor a best that comes no later has an equal side.
  * crates/atlas_search/src/search.rt
  */
-SMALL void atlas_search_search_search_list_FreeBox(slice_FreeBox entries, const atlas_search_Table *table, atlas_search_Place place,
-        atlas_search_Best *best) {
-    atlas_search_Link link_6;
-    link_6 = atlas_search_table_Table_stored_head(table, place);
-    atlas_search_search_show_list_FreeBox(entries, link_6, best);
+SMALL bool atlas_search_search_show_entry_FreeBox(const guillotiere_FreeBox *entry, atlas_search_Link at, atlas_search_Best *best) {
+    atlas_model_Rectangle rectangle_4;
+    uint64_t n_5;
+    rectangle_4 = guillotiere_simple_boxes_FreeBoxEntry_rectangle(entry);
+    n_5 = atlas_search_best_corner(rectangle_4);
+    if (atlas_search_best_Best_passes(best, n_5)) {
+        return false;
+    }
+    if (atlas_search_best_Best_look(best, rectangle_4, n_5, at)) {
+        return false;
+    }
+    return guillotiere_simple_boxes_FreeBoxEntry_is_fork(entry);
 }
 
-/* Shows lists of a row that lie to the right of a request's own and below it to a search.
+/* Shows lists of a row to a search.
  * crates/atlas_search/src/search.rt
  */
-SMALL void atlas_search_search_search_larger_FreeBox(slice_FreeBox entries, const atlas_search_Table *table, uint64_t row,
+SMALL void atlas_search_search_search_row_FreeBox(slice_FreeBox entries, const atlas_search_Table *table, uint64_t row,
         atlas_search_Mask columns, atlas_search_Best *best) {
     atlas_search_Mask mask_6;
     Option_u64 option_8;
-    atlas_search_Link link_11;
     mask_6 = columns;
     for (;;) {
         option_8 = atlas_search_masks_Mask_take_first(&mask_6);
         if (option_8.tag == 1u /* Some */) {
-            link_11 = atlas_search_table_Table_stored_head(table, new_atlas_search_Place(row, option_8.Some.field_0));
-            atlas_search_search_show_larger_FreeBox(entries, link_11, best);
+            atlas_search_search_search_list_FreeBox(entries, table, new_atlas_search_Place(row, option_8.Some.field_0), best);
+        } else {
+            break;
+        }
+    }
+}
+
+/* Shows lists of a column to a search.
+ * crates/atlas_search/src/search.rt
+ */
+SMALL void atlas_search_search_search_column_FreeBox(slice_FreeBox entries, const atlas_search_Table *table, uint64_t column,
+        atlas_search_Mask rows, atlas_search_Best *best) {
+    atlas_search_Mask mask_6;
+    Option_u64 option_8;
+    mask_6 = rows;
+    for (;;) {
+        option_8 = atlas_search_masks_Mask_take_first(&mask_6);
+        if (option_8.tag == 1u /* Some */) {
+            atlas_search_search_search_list_FreeBox(entries, table, new_atlas_search_Place(option_8.Some.field_0, column), best);
+        } else {
+            break;
+        }
+    }
+}
+
+/* Shows lists of these rows to a search, from a column on and before another.
+ * crates/atlas_search/src/search.rt
+ */
+SMALL void atlas_search_search_search_rows_FreeBox(slice_FreeBox entries, const atlas_search_Table *table,
+        const atlas_search_Scale *options, atlas_search_Mask rows, uint64_t first, uint64_t end, atlas_search_Best *best) {
+    atlas_search_Mask mask_8;
+    uint64_t n_9;
+    atlas_search_Mask mask_10;
+    atlas_search_Mask mask_11;
+    Option_u64 option_12;
+    atlas_search_Mask mask_14;
+    atlas_search_Mask mask_15;
+    mask_8 = rows;
+    for (;;) {
+        option_12 = atlas_search_masks_Mask_take_first(&mask_8);
+        if (option_12.tag == 1u /* Some */) {
+            n_9 = option_12.Some.field_0;
+            mask_15 = atlas_search_table_Table_row(table, n_9);
+            mask_14 = atlas_search_masks_Mask_from(mask_15, first);
+            mask_10 = atlas_search_masks_Mask_below(mask_14, end);
+            mask_11 = atlas_search_search_columns_near(options, n_9, mask_10, best);
+            atlas_search_search_search_larger_FreeBox(entries, table, n_9, mask_11, best);
         } else {
             break;
         }
@@ -44900,124 +45026,31 @@ SMALL atlas_search_Link atlas_store_slots_entry_SlotEntry_right(const atlas_stor
     return self->right;
 }
 
-/* crates/atlas_search/src/heap.rt */
-SMALL bool atlas_search_heap_is_fork_Slot(slice_Slot entries, atlas_search_Link at) {
-    return atlas_store_slots_entry_SlotEntry_is_fork(((atlas_store_Slot *)entries.at + (uint64_t)at.number));
-}
-
-/* What hangs below an entry that is no fork becomes one heap, which hangs below `up`. Answers its top, or none.
- * crates/atlas_search/src/heap.rt
+/* What hangs below an entry becomes one heap, which hangs below `up`. Of a fork's two sides the top that comes first comes up.
+ * crates/atlas_search/src/heap/leaving.rt
  */
-SMALL atlas_search_Link atlas_search_heap_close_Slot(slice_Slot_2 entries, atlas_search_Link at, atlas_search_Link up) {
+SMALL atlas_search_Link atlas_search_heap_leaving_leave_some_Slot(slice_Slot_2 entries, atlas_search_Link at, atlas_search_Link up) {
     atlas_search_Links links_4;
-    links_4 = atlas_search_heap_links_at_Slot(new_slice_Slot(entries.at, entries.len), at);
-    if (links_4.left.number == 4294967295u) {
-        if (links_4.right.number != 4294967295u) {
-            atlas_search_heap_set_up_Slot(new_slice_Slot_2(entries.at, entries.len), links_4.right, up);
-        }
-        return links_4.right;
-    }
-    if (links_4.right.number == 4294967295u) {
-        atlas_search_heap_set_up_Slot(new_slice_Slot_2(entries.at, entries.len), links_4.left, up);
-        return links_4.left;
-    }
-    return atlas_search_heap_meld_Slot(new_slice_Slot_2(entries.at, entries.len), links_4.left, links_4.right, up);
-}
-
-/* Whether the left one of two entries comes first: it is there, and the right one isn't, or comes no earlier.
- * crates/atlas_search/src/heap/leaving.rt
- */
-SMALL bool atlas_search_heap_leaving_is_left_first_Slot(slice_Slot entries, atlas_search_Link left, atlas_search_Link right) {
-    uint64_t n_5;
-    uint64_t n_6;
-    if (left.number == 4294967295u) {
-        return false;
-    }
-    if (right.number == 4294967295u) {
-        return true;
-    }
-    n_5 = atlas_search_heap_corner_at_Slot(entries, left);
-    n_6 = atlas_search_heap_corner_at_Slot(entries, right);
-    return n_5 <= n_6;
-}
-
-/* Two heaps hung below a fork that goes. The top that comes first, the left one if `is_left`, takes its place below `up` and is a fork, and
- * what hung below that one goes on in the same way.
- * crates/atlas_search/src/heap/leaving.rt
- */
-PART void atlas_search_heap_leaving_lift_Slot(slice_Slot_2 entries, atlas_search_Link up, atlas_search_Link left, atlas_search_Link right,
-        bool is_left) {
+    bool is_5;
     atlas_search_Link link_6;
-    atlas_search_Links links_7;
-    bool is_8;
-    atlas_search_Link link_9;
-    atlas_search_Link link_10;
-    atlas_search_Links links_11;
-    bool is_12;
-    atlas_search_Link link_13;
-    bool is_16;
-    bool is_26;
-    atlas_search_Link link_41;
-    bool is_49;
-    bool is_59;
-    atlas_search_Link link_74;
-    if (is_left) {
-        if (right.number == 4294967295u) {
-            is_16 = atlas_search_heap_is_fork_Slot(new_slice_Slot(entries.at, entries.len), left);
-            if (!is_16) {
-                atlas_search_heap_set_up_Slot(new_slice_Slot_2(entries.at, entries.len), left, up);
-                return;
-            }
-        }
-        atlas_search_heap_move_below_Slot(new_slice_Slot_2(entries.at, entries.len), right, left);
-        is_26 = atlas_search_heap_is_fork_Slot(new_slice_Slot(entries.at, entries.len), left);
-        if (!is_26) {
-            link_6 = atlas_search_heap_close_Slot(new_slice_Slot_2(entries.at, entries.len), left, left);
-            atlas_search_heap_put_Slot(new_slice_Slot_2(entries.at, entries.len), left, up, link_6, right, true);
-            return;
-        }
-        links_7 = atlas_search_heap_links_at_Slot(new_slice_Slot(entries.at, entries.len), left);
-        is_8 = atlas_search_heap_leaving_is_left_first_Slot(new_slice_Slot(entries.at, entries.len), links_7.left, links_7.right);
-        if (is_8) {
-            link_41 = links_7.left;
-        } else {
-            link_41 = links_7.right;
-        }
-        link_9 = link_41;
-        atlas_search_heap_put_Slot(new_slice_Slot_2(entries.at, entries.len), left, up, link_9, right, true);
-        if (link_9.number == 4294967295u) {
-            return;
-        }
-        atlas_search_heap_leaving_lift_Slot(new_slice_Slot_2(entries.at, entries.len), left, links_7.left, links_7.right, is_8);
-    } else {
-        if (left.number == 4294967295u) {
-            is_49 = atlas_search_heap_is_fork_Slot(new_slice_Slot(entries.at, entries.len), right);
-            if (!is_49) {
-                atlas_search_heap_set_up_Slot(new_slice_Slot_2(entries.at, entries.len), right, up);
-                return;
-            }
-        }
-        atlas_search_heap_move_below_Slot(new_slice_Slot_2(entries.at, entries.len), left, right);
-        is_59 = atlas_search_heap_is_fork_Slot(new_slice_Slot(entries.at, entries.len), right);
-        if (!is_59) {
-            link_10 = atlas_search_heap_close_Slot(new_slice_Slot_2(entries.at, entries.len), right, right);
-            atlas_search_heap_put_Slot(new_slice_Slot_2(entries.at, entries.len), right, up, left, link_10, true);
-            return;
-        }
-        links_11 = atlas_search_heap_links_at_Slot(new_slice_Slot(entries.at, entries.len), right);
-        is_12 = atlas_search_heap_leaving_is_left_first_Slot(new_slice_Slot(entries.at, entries.len), links_11.left, links_11.right);
-        if (is_12) {
-            link_74 = links_11.left;
-        } else {
-            link_74 = links_11.right;
-        }
-        link_13 = link_74;
-        atlas_search_heap_put_Slot(new_slice_Slot_2(entries.at, entries.len), right, up, left, link_13, true);
-        if (link_13.number == 4294967295u) {
-            return;
-        }
-        atlas_search_heap_leaving_lift_Slot(new_slice_Slot_2(entries.at, entries.len), right, links_11.left, links_11.right, is_12);
+    bool is_7;
+    atlas_search_Link link_19;
+    is_7 = atlas_search_heap_is_fork_Slot(new_slice_Slot(entries.at, entries.len), at);
+    if (!is_7) {
+        return atlas_search_heap_close_Slot(new_slice_Slot_2(entries.at, entries.len), at, up);
     }
+    links_4 = atlas_search_heap_links_at_Slot(new_slice_Slot(entries.at, entries.len), at);
+    is_5 = atlas_search_heap_leaving_is_left_first_Slot(new_slice_Slot(entries.at, entries.len), links_4.left, links_4.right);
+    if (is_5) {
+        link_19 = links_4.left;
+    } else {
+        link_19 = links_4.right;
+    }
+    link_6 = link_19;
+    if (link_6.number != 4294967295u) {
+        atlas_search_heap_leaving_lift_Slot(new_slice_Slot_2(entries.at, entries.len), up, links_4.left, links_4.right, is_5);
+    }
+    return link_6;
 }
 
 /* crates/atlas_store/src/slots/entry.rt */
@@ -45082,6 +45115,11 @@ SMALL uint64_t atlas_search_heap_corner_at_Slot(slice_Slot entries, atlas_search
     atlas_model_Rectangle rectangle_3;
     rectangle_3 = atlas_store_slots_entry_SlotEntry_rectangle(((atlas_store_Slot *)entries.at + (uint64_t)at.number));
     return atlas_search_best_corner(rectangle_3);
+}
+
+/* crates/atlas_search/src/heap.rt */
+SMALL bool atlas_search_heap_is_fork_Slot(slice_Slot entries, atlas_search_Link at) {
+    return atlas_store_slots_entry_SlotEntry_is_fork(((atlas_store_Slot *)entries.at + (uint64_t)at.number));
 }
 
 /* An entry hangs below another one, or a tag.
@@ -45196,124 +45234,92 @@ SMALL void atlas_search_heap_sorting_make_fork_Slot(slice_Slot_2 entries, atlas_
     }
 }
 
-/* A side, and so much more.
+/* The rank of a box with this corner, if it is to be kept rather than the best one.
  * crates/atlas_search/src/best.rt
  */
-SMALL uint32_t atlas_search_best_longer(uint32_t side, uint32_t more) {
-    return side + more;
-}
-
-/* The `min` of a box as one number, the greater the later the box comes: the y, and below it the x.
- * crates/atlas_search/src/best.rt
- */
-SMALL uint64_t atlas_search_best_corner(atlas_model_Rectangle rectangle) {
-    return ((uint64_t)rectangle.min_.y * UINT64_C(4294967296)) + (uint64_t)rectangle.min_.x;
-}
-
-/* Whether the best leaves over 1 or nothing and begins at this corner or before it: of boxes that are longer on both sides than the
- * request, none that begins there or later is better.
- * crates/atlas_search/src/best.rt
- */
-SMALL bool atlas_search_best_Best_passes_larger(const atlas_search_Best *self, uint64_t corner) {
-    bool is_3;
-    is_3 = self->reach <= 1u;
-    if (is_3) {
-        is_3 = self->corner <= corner;
-    }
-    return is_3;
-}
-
-/* Shows the box of an entry, which has this corner and is longer on both sides than the request.
- * crates/atlas_search/src/best.rt
- */
-SMALL void atlas_search_best_Best_look_larger(atlas_search_Best *self, atlas_model_Rectangle rectangle, uint64_t corner,
-        atlas_search_Link at) {
+SMALL Option_u32 atlas_search_best_Best_rank_ahead(const atlas_search_Best *self, atlas_model_Rectangle rectangle, uint64_t corner) {
+    uint32_t n_4;
     uint32_t n_5;
-    uint32_t n_6;
-    uint32_t n_7;
-    atlas_model_Size size_14;
-    bool is_15;
-    uint32_t n_16;
-    uint32_t n_17;
-    uint64_t n_18;
-    uint32_t n_21;
-    n_6 = self->flip;
-    n_7 = atlas_search_choice_margin_in(rectangle, self->size);
-    n_5 = atlas_search_best_rank_above_zero(n_6, n_7);
+    Option_u32 option_10;
+    n_4 = atlas_search_choice_margin_in(rectangle, self->size);
+    if ((int32_t)n_4 < (int32_t)0u) {
+        return new_Option_u32_None();
+    }
+    n_5 = atlas_search_best_rank(self->flip, n_4);
     if (atlas_search_best_Best_is_beaten_by(self, n_5, corner)) {
-        size_14 = self->size;
-        is_15 = self->is_large;
-        n_16 = self->flip;
-        n_17 = n_5;
-        n_18 = corner;
-        if (self->is_large) {
-            n_21 = 4294967295u;
-        } else {
-            n_21 = n_5;
+        option_10 = new_Option_u32_Some(n_5);
+    } else {
+        option_10 = new_Option_u32_None();
+    }
+    return option_10;
+}
+
+/* How great the least margin of a box may be that is better than the best of this rank. For a large request that doesn't end, unless there
+ * is an equal side.
+ * crates/atlas_search/src/best.rt
+ */
+SMALL uint32_t atlas_search_best_reach_of(bool is_large, uint32_t rank) {
+    if (rank == 0u) {
+        return 0u;
+    }
+    if (is_large) {
+        return 4294967295u;
+    }
+    if (2147483647u <= rank) {
+        return 4294967295u;
+    }
+    return rank;
+}
+
+/* A size such that no box is better than the best that is both wider and higher; None as long as none is known, where the
+ * request is large and the best has no equal side, and where a side may pass what an `i32` can hold.
+ * crates/atlas_search/src/best.rt
+ */
+SMALL Option_Size atlas_search_best_Best_farthest(const atlas_search_Best *self) {
+    uint32_t n_10;
+    uint32_t n_17;
+    if (1073741824u <= self->reach) {
+        return new_Option_Size_None();
+    }
+    if (!((int32_t)1073741824u <= (int32_t)self->size.width)) {
+        if (!((int32_t)1073741824u <= (int32_t)self->size.height)) {
+            goto after_2;
         }
-        *self = new_atlas_search_Best(size_14, is_15, n_16, n_17, n_18, UINT64_C(18446744073709551615), n_21, at);
     }
+    return new_Option_Size_None();
+after_2:;
+    n_17 = atlas_search_best_longer(self->size.width, self->reach);
+    n_10 = atlas_search_best_longer(self->size.height, self->reach);
+    return new_Option_Size_Some(new_atlas_model_Size(n_17, n_10));
 }
 
-/* crates/atlas_store/src/slots/entry.rt */
-SMALL bool atlas_store_slots_entry_SlotEntry_is_fork(const atlas_store_Slot *self) {
-    return self->is_fork;
-}
-
-/* Whether no box of a size in this cell that begins at this corner or later is better than the best, since each leaves over as much as
- * that or more. It isn't said where the best has an equal side, nor of a large request.
- * crates/atlas_search/src/best.rt
+/* Shows a list of sizes that are larger than the request's, both sides, to a search. It may be enough to look at its first entry.
+ * crates/atlas_search/src/search.rt
  */
-SMALL bool atlas_search_best_Best_ends_in(const atlas_search_Best *self, atlas_search_Cell cell, uint64_t corner) {
-    if (corner < self->corner) {
-        return false;
+SMALL void atlas_search_search_show_larger_Slot(slice_Slot entries, atlas_search_Link top, atlas_search_Best *best) {
+    const atlas_store_Slot *at_4;
+    atlas_model_Rectangle rectangle_5;
+    uint64_t n_6;
+    atlas_search_Cell cell_7;
+    atlas_model_Size size_17;
+    if (entries.len <= (uint64_t)top.number) {
+        return;
     }
-    if (self->reach == 0u) {
-        return false;
+    at_4 = ((atlas_store_Slot *)entries.at + (uint64_t)top.number);
+    rectangle_5 = atlas_store_slots_entry_SlotEntry_rectangle(at_4);
+    n_6 = atlas_search_best_corner(rectangle_5);
+    if (atlas_search_best_Best_passes_larger(best, n_6)) {
+        return;
     }
-    return atlas_search_cells_Cell_is_beyond(cell, self->size, self->reach - 1u);
-}
-
-/* Whether the best has an equal side and begins at this corner or before it: no box that begins there or later is
- * better.
- * crates/atlas_search/src/best.rt
- */
-SMALL bool atlas_search_best_Best_passes(const atlas_search_Best *self, uint64_t corner) {
-    return self->bar <= corner;
-}
-
-/* Shows the box of an entry, which has this corner. Answers whether it is the best now and has an equal side: no box that begins there
- * or later is better then.
- * crates/atlas_search/src/best.rt
- */
-SMALL bool atlas_search_best_Best_look(atlas_search_Best *self, atlas_model_Rectangle rectangle, uint64_t corner, atlas_search_Link at) {
-    uint32_t n_5;
-    Option_u32 option_6;
-    atlas_model_Size size_10;
-    bool is_11;
-    uint32_t n_12;
-    uint32_t n_13;
-    uint64_t n_14;
-    uint64_t n_18;
-    uint32_t n_19;
-    option_6 = atlas_search_best_Best_rank_ahead(self, rectangle, corner);
-    if (option_6.tag == 1u /* Some */) {
-        n_5 = option_6.Some.field_0;
-        size_10 = self->size;
-        is_11 = self->is_large;
-        n_12 = self->flip;
-        n_13 = n_5;
-        n_14 = corner;
-        if (n_5 == 0u) {
-            n_18 = corner;
-        } else {
-            n_18 = UINT64_C(18446744073709551615);
+    atlas_search_best_Best_look_larger(best, rectangle_5, n_6, top);
+    if (atlas_store_slots_entry_SlotEntry_is_fork(at_4)) {
+        size_17 = atlas_search_cut_exact_size(rectangle_5);
+        cell_7 = atlas_search_cells_Cell_around(size_17);
+        if (atlas_search_best_Best_ends_in(best, cell_7, n_6)) {
+            return;
         }
-        n_19 = atlas_search_best_reach_of(self->is_large, n_5);
-        *self = new_atlas_search_Best(size_10, is_11, n_12, n_13, n_14, n_18, n_19, at);
-        return n_5 == 0u;
+        atlas_search_search_show_halves_Slot(entries, at_4, cell_7, best);
     }
-    return false;
 }
 
 /* Whether the request may fit a box of a size in this cell: both of its sides are before the ends.
@@ -45562,51 +45568,39 @@ SMALL void guillotiere_c_Destruct_none_drop_FreeBox(guillotiere_FreeBox given_1)
     (void)given_1;
 }
 
-/* Shows a list of sizes that are larger than the request's, both sides, to a search. It may be enough to look at its first entry.
- * crates/atlas_search/src/search.rt
- */
-SMALL void atlas_search_search_show_larger_FreeBox(slice_FreeBox entries, atlas_search_Link top, atlas_search_Best *best) {
-    const guillotiere_FreeBox *at_4;
-    atlas_model_Rectangle rectangle_5;
-    uint64_t n_6;
-    atlas_search_Cell cell_7;
-    atlas_model_Size size_17;
-    if (entries.len <= (uint64_t)top.number) {
-        return;
-    }
-    at_4 = ((guillotiere_FreeBox *)entries.at + (uint64_t)top.number);
-    rectangle_5 = guillotiere_simple_boxes_FreeBoxEntry_rectangle(at_4);
-    n_6 = atlas_search_best_corner(rectangle_5);
-    if (atlas_search_best_Best_passes_larger(best, n_6)) {
-        return;
-    }
-    atlas_search_best_Best_look_larger(best, rectangle_5, n_6, top);
-    if (guillotiere_simple_boxes_FreeBoxEntry_is_fork(at_4)) {
-        size_17 = atlas_search_cut_exact_size(rectangle_5);
-        cell_7 = atlas_search_cells_Cell_around(size_17);
-        if (atlas_search_best_Best_ends_in(best, cell_7, n_6)) {
-            return;
-        }
-        atlas_search_search_show_halves_FreeBox(entries, at_4, cell_7, best);
-    }
+/* crates/guillotiere/src/simple/boxes.rt */
+SMALL bool guillotiere_simple_boxes_FreeBoxEntry_is_fork(const guillotiere_FreeBox *self) {
+    return self->is_fork;
 }
 
-/* Shows an entry to a search. Answers whether one that hangs below it may be better: where it is a fork, since else those have
- * its size and come no earlier, and where neither it nor a best that comes no later has an equal side.
+/* Shows the list at a place to a search.
  * crates/atlas_search/src/search.rt
  */
-SMALL bool atlas_search_search_show_entry_FreeBox(const guillotiere_FreeBox *entry, atlas_search_Link at, atlas_search_Best *best) {
-    atlas_model_Rectangle rectangle_4;
-    uint64_t n_5;
-    rectangle_4 = guillotiere_simple_boxes_FreeBoxEntry_rectangle(entry);
-    n_5 = atlas_search_best_corner(rectangle_4);
-    if (atlas_search_best_Best_passes(best, n_5)) {
-        return false;
+SMALL void atlas_search_search_search_list_FreeBox(slice_FreeBox entries, const atlas_search_Table *table, atlas_search_Place place,
+        atlas_search_Best *best) {
+    atlas_search_Link link_6;
+    link_6 = atlas_search_table_Table_stored_head(table, place);
+    atlas_search_search_show_list_FreeBox(entries, link_6, best);
+}
+
+/* Shows lists of a row that lie to the right of a request's own and below it to a search.
+ * crates/atlas_search/src/search.rt
+ */
+SMALL void atlas_search_search_search_larger_FreeBox(slice_FreeBox entries, const atlas_search_Table *table, uint64_t row,
+        atlas_search_Mask columns, atlas_search_Best *best) {
+    atlas_search_Mask mask_6;
+    Option_u64 option_8;
+    atlas_search_Link link_11;
+    mask_6 = columns;
+    for (;;) {
+        option_8 = atlas_search_masks_Mask_take_first(&mask_6);
+        if (option_8.tag == 1u /* Some */) {
+            link_11 = atlas_search_table_Table_stored_head(table, new_atlas_search_Place(row, option_8.Some.field_0));
+            atlas_search_search_show_larger_FreeBox(entries, link_11, best);
+        } else {
+            break;
+        }
     }
-    if (atlas_search_best_Best_look(best, rectangle_4, n_5, at)) {
-        return false;
-    }
-    return guillotiere_simple_boxes_FreeBoxEntry_is_fork(entry);
 }
 
 /* Shows what hangs below a fork of sizes of a cell to a search, but for what can't be the best: of the halves only those are entered that
@@ -45629,41 +45623,23 @@ SMALL void atlas_search_search_show_halves_FreeBox(slice_FreeBox entries, const 
     }
 }
 
-/* What hangs below an entry becomes one heap, which hangs below `up`. Of a fork's two sides the top that comes first comes up.
+/* What hangs below an entry becomes one heap, which hangs below `up`: most often there is nothing.
  * crates/atlas_search/src/heap/leaving.rt
  */
 SMALL atlas_search_Link atlas_search_heap_leaving_leave_FreeBox(slice_FreeBox_2 entries, atlas_search_Link at, atlas_search_Link up) {
     atlas_search_Links links_4;
-    bool is_5;
-    atlas_search_Link link_6;
-    bool is_7;
-    atlas_search_Link link_19;
-    is_7 = atlas_search_heap_is_fork_FreeBox(new_slice_FreeBox(entries.at, entries.len), at);
-    if (!is_7) {
-        return atlas_search_heap_close_FreeBox(new_slice_FreeBox_2(entries.at, entries.len), at, up);
-    }
     links_4 = atlas_search_heap_links_at_FreeBox(new_slice_FreeBox(entries.at, entries.len), at);
-    is_5 = atlas_search_heap_leaving_is_left_first_FreeBox(new_slice_FreeBox(entries.at, entries.len), links_4.left, links_4.right);
-    if (is_5) {
-        link_19 = links_4.left;
-    } else {
-        link_19 = links_4.right;
+    if (links_4.left.number == 4294967295u) {
+        if (links_4.right.number == 4294967295u) {
+            return new_atlas_search_Link(4294967295u);
+        }
     }
-    link_6 = link_19;
-    if (link_6.number != 4294967295u) {
-        atlas_search_heap_leaving_lift_FreeBox(new_slice_FreeBox_2(entries.at, entries.len), up, links_4.left, links_4.right, is_5);
-    }
-    return link_6;
+    return atlas_search_heap_leaving_leave_some_FreeBox(new_slice_FreeBox_2(entries.at, entries.len), at, up);
 }
 
 /* guillotiere::Destruct++none::drop */
 SMALL void guillotiere_Destruct_none_drop_FreeBox(guillotiere_FreeBox given_1) {
     (void)given_1;
-}
-
-/* crates/guillotiere/src/simple/boxes.rt */
-SMALL bool guillotiere_simple_boxes_FreeBoxEntry_is_fork(const guillotiere_FreeBox *self) {
-    return self->is_fork;
 }
 
 /* Hangs an entry, with all below it, to the left below another one. What was there hangs to the right then.
@@ -49214,12 +49190,118 @@ SMALL void atlas_store_Destruct_none_drop_Marks(const atlas_search_Marks given_1
     (void)given_1;
 }
 
-/* An entry, if it is one, hangs below another one, or a tag.
+/* What hangs below an entry that is no fork becomes one heap, which hangs below `up`. Answers its top, or none.
  * crates/atlas_search/src/heap.rt
  */
-SMALL void atlas_search_heap_move_below_Slot(slice_Slot_2 entries, atlas_search_Link at, atlas_search_Link up) {
-    if (at.number != 4294967295u) {
-        atlas_search_heap_set_up_Slot(new_slice_Slot_2(entries.at, entries.len), at, up);
+SMALL atlas_search_Link atlas_search_heap_close_Slot(slice_Slot_2 entries, atlas_search_Link at, atlas_search_Link up) {
+    atlas_search_Links links_4;
+    links_4 = atlas_search_heap_links_at_Slot(new_slice_Slot(entries.at, entries.len), at);
+    if (links_4.left.number == 4294967295u) {
+        if (links_4.right.number != 4294967295u) {
+            atlas_search_heap_set_up_Slot(new_slice_Slot_2(entries.at, entries.len), links_4.right, up);
+        }
+        return links_4.right;
+    }
+    if (links_4.right.number == 4294967295u) {
+        atlas_search_heap_set_up_Slot(new_slice_Slot_2(entries.at, entries.len), links_4.left, up);
+        return links_4.left;
+    }
+    return atlas_search_heap_meld_Slot(new_slice_Slot_2(entries.at, entries.len), links_4.left, links_4.right, up);
+}
+
+/* Whether the left one of two entries comes first: it is there, and the right one isn't, or comes no earlier.
+ * crates/atlas_search/src/heap/leaving.rt
+ */
+SMALL bool atlas_search_heap_leaving_is_left_first_Slot(slice_Slot entries, atlas_search_Link left, atlas_search_Link right) {
+    uint64_t n_5;
+    uint64_t n_6;
+    if (left.number == 4294967295u) {
+        return false;
+    }
+    if (right.number == 4294967295u) {
+        return true;
+    }
+    n_5 = atlas_search_heap_corner_at_Slot(entries, left);
+    n_6 = atlas_search_heap_corner_at_Slot(entries, right);
+    return n_5 <= n_6;
+}
+
+/* Two heaps hung below a fork that goes. The top that comes first, the left one if `is_left`, takes its place below `up` and is a fork, and
+ * what hung below that one goes on in the same way.
+ * crates/atlas_search/src/heap/leaving.rt
+ */
+PART void atlas_search_heap_leaving_lift_Slot(slice_Slot_2 entries, atlas_search_Link up, atlas_search_Link left, atlas_search_Link right,
+        bool is_left) {
+    atlas_search_Link link_6;
+    atlas_search_Links links_7;
+    bool is_8;
+    atlas_search_Link link_9;
+    atlas_search_Link link_10;
+    atlas_search_Links links_11;
+    bool is_12;
+    atlas_search_Link link_13;
+    bool is_16;
+    bool is_26;
+    atlas_search_Link link_41;
+    bool is_49;
+    bool is_59;
+    atlas_search_Link link_74;
+    if (is_left) {
+        if (right.number == 4294967295u) {
+            is_16 = atlas_search_heap_is_fork_Slot(new_slice_Slot(entries.at, entries.len), left);
+            if (!is_16) {
+                atlas_search_heap_set_up_Slot(new_slice_Slot_2(entries.at, entries.len), left, up);
+                return;
+            }
+        }
+        atlas_search_heap_move_below_Slot(new_slice_Slot_2(entries.at, entries.len), right, left);
+        is_26 = atlas_search_heap_is_fork_Slot(new_slice_Slot(entries.at, entries.len), left);
+        if (!is_26) {
+            link_6 = atlas_search_heap_close_Slot(new_slice_Slot_2(entries.at, entries.len), left, left);
+            atlas_search_heap_put_Slot(new_slice_Slot_2(entries.at, entries.len), left, up, link_6, right, true);
+            return;
+        }
+        links_7 = atlas_search_heap_links_at_Slot(new_slice_Slot(entries.at, entries.len), left);
+        is_8 = atlas_search_heap_leaving_is_left_first_Slot(new_slice_Slot(entries.at, entries.len), links_7.left, links_7.right);
+        if (is_8) {
+            link_41 = links_7.left;
+        } else {
+            link_41 = links_7.right;
+        }
+        link_9 = link_41;
+        atlas_search_heap_put_Slot(new_slice_Slot_2(entries.at, entries.len), left, up, link_9, right, true);
+        if (link_9.number == 4294967295u) {
+            return;
+        }
+        atlas_search_heap_leaving_lift_Slot(new_slice_Slot_2(entries.at, entries.len), left, links_7.left, links_7.right, is_8);
+    } else {
+        if (left.number == 4294967295u) {
+            is_49 = atlas_search_heap_is_fork_Slot(new_slice_Slot(entries.at, entries.len), right);
+            if (!is_49) {
+                atlas_search_heap_set_up_Slot(new_slice_Slot_2(entries.at, entries.len), right, up);
+                return;
+            }
+        }
+        atlas_search_heap_move_below_Slot(new_slice_Slot_2(entries.at, entries.len), left, right);
+        is_59 = atlas_search_heap_is_fork_Slot(new_slice_Slot(entries.at, entries.len), right);
+        if (!is_59) {
+            link_10 = atlas_search_heap_close_Slot(new_slice_Slot_2(entries.at, entries.len), right, right);
+            atlas_search_heap_put_Slot(new_slice_Slot_2(entries.at, entries.len), right, up, left, link_10, true);
+            return;
+        }
+        links_11 = atlas_search_heap_links_at_Slot(new_slice_Slot(entries.at, entries.len), right);
+        is_12 = atlas_search_heap_leaving_is_left_first_Slot(new_slice_Slot(entries.at, entries.len), links_11.left, links_11.right);
+        if (is_12) {
+            link_74 = links_11.left;
+        } else {
+            link_74 = links_11.right;
+        }
+        link_13 = link_74;
+        atlas_search_heap_put_Slot(new_slice_Slot_2(entries.at, entries.len), right, up, left, link_13, true);
+        if (link_13.number == 4294967295u) {
+            return;
+        }
+        atlas_search_heap_leaving_lift_Slot(new_slice_Slot_2(entries.at, entries.len), right, links_11.left, links_11.right, is_12);
     }
 }
 
@@ -49259,13 +49341,23 @@ SMALL void atlas_search_heap_swap_below_Slot(slice_Slot_2 entries, atlas_search_
     atlas_search_heap_relink_Slot(new_slice_Slot_2(entries.at, entries.len), above, links_3.up, links_3.right, links_3.left);
 }
 
-/* The rank of a box with this least margin, if that is above 0.
+/* An entry, if it is one, hangs below another one, or a tag.
+ * crates/atlas_search/src/heap.rt
+ */
+SMALL void atlas_search_heap_move_below_Slot(slice_Slot_2 entries, atlas_search_Link at, atlas_search_Link up) {
+    if (at.number != 4294967295u) {
+        atlas_search_heap_set_up_Slot(new_slice_Slot_2(entries.at, entries.len), at, up);
+    }
+}
+
+/* The rank of a box with this least margin.
  * crates/atlas_search/src/best.rt
  */
-SMALL uint32_t atlas_search_best_rank_above_zero(uint32_t flip, uint32_t margin) {
-    uint32_t n_3;
-    n_3 = core_int_i32_cast_unsigned(margin);
-    return n_3 ^ flip;
+SMALL uint32_t atlas_search_best_rank(uint32_t flip, uint32_t margin) {
+    if (margin == 0u) {
+        return 0u;
+    }
+    return atlas_search_best_rank_above_zero(flip, margin);
 }
 
 /* Whether a box of this rank with this corner is to be kept rather than the best one.
@@ -49285,6 +49377,80 @@ SMALL bool atlas_search_best_Best_is_beaten_by(const atlas_search_Best *self, ui
     return is_4;
 }
 
+/* A side, and so much more.
+ * crates/atlas_search/src/best.rt
+ */
+SMALL uint32_t atlas_search_best_longer(uint32_t side, uint32_t more) {
+    return side + more;
+}
+
+/* Whether the best leaves over 1 or nothing and begins at this corner or before it: of boxes that are longer on both sides than the
+ * request, none that begins there or later is better.
+ * crates/atlas_search/src/best.rt
+ */
+SMALL bool atlas_search_best_Best_passes_larger(const atlas_search_Best *self, uint64_t corner) {
+    bool is_3;
+    is_3 = self->reach <= 1u;
+    if (is_3) {
+        is_3 = self->corner <= corner;
+    }
+    return is_3;
+}
+
+/* Shows the box of an entry, which has this corner and is longer on both sides than the request.
+ * crates/atlas_search/src/best.rt
+ */
+SMALL void atlas_search_best_Best_look_larger(atlas_search_Best *self, atlas_model_Rectangle rectangle, uint64_t corner,
+        atlas_search_Link at) {
+    uint32_t n_5;
+    uint32_t n_6;
+    uint32_t n_7;
+    atlas_model_Size size_14;
+    bool is_15;
+    uint32_t n_16;
+    uint32_t n_17;
+    uint64_t n_18;
+    uint32_t n_21;
+    n_6 = self->flip;
+    n_7 = atlas_search_choice_margin_in(rectangle, self->size);
+    n_5 = atlas_search_best_rank_above_zero(n_6, n_7);
+    if (atlas_search_best_Best_is_beaten_by(self, n_5, corner)) {
+        size_14 = self->size;
+        is_15 = self->is_large;
+        n_16 = self->flip;
+        n_17 = n_5;
+        n_18 = corner;
+        if (self->is_large) {
+            n_21 = 4294967295u;
+        } else {
+            n_21 = n_5;
+        }
+        *self = new_atlas_search_Best(size_14, is_15, n_16, n_17, n_18, UINT64_C(18446744073709551615), n_21, at);
+    }
+}
+
+/* Whether no box of a size in this cell that begins at this corner or later is better than the best, since each leaves over as much as
+ * that or more. It isn't said where the best has an equal side, nor of a large request.
+ * crates/atlas_search/src/best.rt
+ */
+SMALL bool atlas_search_best_Best_ends_in(const atlas_search_Best *self, atlas_search_Cell cell, uint64_t corner) {
+    if (corner < self->corner) {
+        return false;
+    }
+    if (self->reach == 0u) {
+        return false;
+    }
+    return atlas_search_cells_Cell_is_beyond(cell, self->size, self->reach - 1u);
+}
+
+/* A call of its own for each fork that is entered. The cell comes by its four sides, since a whole one would go through memory.
+ * crates/atlas_search/src/search.rt
+ */
+PART void atlas_search_search_show_below_Slot(slice_Slot entries, const atlas_store_Slot *fork, atlas_search_Best *best, uint32_t left,
+        uint32_t right, uint32_t top, uint32_t bottom) {
+    atlas_search_search_show_halves_Slot(entries, fork, new_atlas_search_Cell(left, right, top, bottom), best);
+}
+
 /* Whether both sides of a size, and so much more, are before the first ones.
  * crates/atlas_search/src/cells.rt
  */
@@ -49297,51 +49463,6 @@ SMALL bool atlas_search_cells_Cell_is_beyond(atlas_search_Cell self, atlas_model
         is_9 = n_5 < (uint64_t)self.top;
     }
     return is_9;
-}
-
-/* The rank of a box with this corner, if it is to be kept rather than the best one.
- * crates/atlas_search/src/best.rt
- */
-SMALL Option_u32 atlas_search_best_Best_rank_ahead(const atlas_search_Best *self, atlas_model_Rectangle rectangle, uint64_t corner) {
-    uint32_t n_4;
-    uint32_t n_5;
-    Option_u32 option_10;
-    n_4 = atlas_search_choice_margin_in(rectangle, self->size);
-    if ((int32_t)n_4 < (int32_t)0u) {
-        return new_Option_u32_None();
-    }
-    n_5 = atlas_search_best_rank(self->flip, n_4);
-    if (atlas_search_best_Best_is_beaten_by(self, n_5, corner)) {
-        option_10 = new_Option_u32_Some(n_5);
-    } else {
-        option_10 = new_Option_u32_None();
-    }
-    return option_10;
-}
-
-/* How great the least margin of a box may be that is better than the best of this rank. For a large request that doesn't end, unless there
- * is an equal side.
- * crates/atlas_search/src/best.rt
- */
-SMALL uint32_t atlas_search_best_reach_of(bool is_large, uint32_t rank) {
-    if (rank == 0u) {
-        return 0u;
-    }
-    if (is_large) {
-        return 4294967295u;
-    }
-    if (2147483647u <= rank) {
-        return 4294967295u;
-    }
-    return rank;
-}
-
-/* A call of its own for each fork that is entered. The cell comes by its four sides, since a whole one would go through memory.
- * crates/atlas_search/src/search.rt
- */
-PART void atlas_search_search_show_below_Slot(slice_Slot entries, const atlas_store_Slot *fork, atlas_search_Best *best, uint32_t left,
-        uint32_t right, uint32_t top, uint32_t bottom) {
-    atlas_search_search_show_halves_Slot(entries, fork, new_atlas_search_Cell(left, right, top, bottom), best);
 }
 
 /* core::slots::lends::with_slots */
@@ -49539,6 +49660,35 @@ SMALL void core_slice_edits_mirror_Allocation(slice_Allocation_2 front, uint64_t
     }
 }
 
+/* Shows a list of sizes that are larger than the request's, both sides, to a search. It may be enough to look at its first entry.
+ * crates/atlas_search/src/search.rt
+ */
+SMALL void atlas_search_search_show_larger_FreeBox(slice_FreeBox entries, atlas_search_Link top, atlas_search_Best *best) {
+    const guillotiere_FreeBox *at_4;
+    atlas_model_Rectangle rectangle_5;
+    uint64_t n_6;
+    atlas_search_Cell cell_7;
+    atlas_model_Size size_17;
+    if (entries.len <= (uint64_t)top.number) {
+        return;
+    }
+    at_4 = ((guillotiere_FreeBox *)entries.at + (uint64_t)top.number);
+    rectangle_5 = guillotiere_simple_boxes_FreeBoxEntry_rectangle(at_4);
+    n_6 = atlas_search_best_corner(rectangle_5);
+    if (atlas_search_best_Best_passes_larger(best, n_6)) {
+        return;
+    }
+    atlas_search_best_Best_look_larger(best, rectangle_5, n_6, top);
+    if (guillotiere_simple_boxes_FreeBoxEntry_is_fork(at_4)) {
+        size_17 = atlas_search_cut_exact_size(rectangle_5);
+        cell_7 = atlas_search_cells_Cell_around(size_17);
+        if (atlas_search_best_Best_ends_in(best, cell_7, n_6)) {
+            return;
+        }
+        atlas_search_search_show_halves_FreeBox(entries, at_4, cell_7, best);
+    }
+}
+
 /* Shows the entries of a heap with this top and of sizes of a cell to a search, but for those that can't be the best.
  * crates/atlas_search/src/search.rt
  */
@@ -49554,100 +49704,31 @@ SMALL void atlas_search_search_show_within_FreeBox(slice_FreeBox entries, atlas_
     }
 }
 
-/* Whether the left one of two entries comes first: it is there, and the right one isn't, or comes no earlier.
+/* What hangs below an entry becomes one heap, which hangs below `up`. Of a fork's two sides the top that comes first comes up.
  * crates/atlas_search/src/heap/leaving.rt
  */
-SMALL bool atlas_search_heap_leaving_is_left_first_FreeBox(slice_FreeBox entries, atlas_search_Link left, atlas_search_Link right) {
-    uint64_t n_5;
-    uint64_t n_6;
-    if (left.number == 4294967295u) {
-        return false;
-    }
-    if (right.number == 4294967295u) {
-        return true;
-    }
-    n_5 = atlas_search_heap_corner_at_FreeBox(entries, left);
-    n_6 = atlas_search_heap_corner_at_FreeBox(entries, right);
-    return n_5 <= n_6;
-}
-
-/* Two heaps hung below a fork that goes. The top that comes first, the left one if `is_left`, takes its place below `up` and is a fork, and
- * what hung below that one goes on in the same way.
- * crates/atlas_search/src/heap/leaving.rt
- */
-PART void atlas_search_heap_leaving_lift_FreeBox(slice_FreeBox_2 entries, atlas_search_Link up, atlas_search_Link left,
-        atlas_search_Link right, bool is_left) {
+SMALL atlas_search_Link atlas_search_heap_leaving_leave_some_FreeBox(slice_FreeBox_2 entries, atlas_search_Link at, atlas_search_Link up) {
+    atlas_search_Links links_4;
+    bool is_5;
     atlas_search_Link link_6;
-    atlas_search_Links links_7;
-    bool is_8;
-    atlas_search_Link link_9;
-    atlas_search_Link link_10;
-    atlas_search_Links links_11;
-    bool is_12;
-    atlas_search_Link link_13;
-    bool is_16;
-    bool is_26;
-    atlas_search_Link link_41;
-    bool is_49;
-    bool is_59;
-    atlas_search_Link link_74;
-    if (is_left) {
-        if (right.number == 4294967295u) {
-            is_16 = atlas_search_heap_is_fork_FreeBox(new_slice_FreeBox(entries.at, entries.len), left);
-            if (!is_16) {
-                atlas_search_heap_set_up_FreeBox(new_slice_FreeBox_2(entries.at, entries.len), left, up);
-                return;
-            }
-        }
-        atlas_search_heap_move_below_FreeBox(new_slice_FreeBox_2(entries.at, entries.len), right, left);
-        is_26 = atlas_search_heap_is_fork_FreeBox(new_slice_FreeBox(entries.at, entries.len), left);
-        if (!is_26) {
-            link_6 = atlas_search_heap_close_FreeBox(new_slice_FreeBox_2(entries.at, entries.len), left, left);
-            atlas_search_heap_put_FreeBox(new_slice_FreeBox_2(entries.at, entries.len), left, up, link_6, right, true);
-            return;
-        }
-        links_7 = atlas_search_heap_links_at_FreeBox(new_slice_FreeBox(entries.at, entries.len), left);
-        is_8 = atlas_search_heap_leaving_is_left_first_FreeBox(new_slice_FreeBox(entries.at, entries.len), links_7.left, links_7.right);
-        if (is_8) {
-            link_41 = links_7.left;
-        } else {
-            link_41 = links_7.right;
-        }
-        link_9 = link_41;
-        atlas_search_heap_put_FreeBox(new_slice_FreeBox_2(entries.at, entries.len), left, up, link_9, right, true);
-        if (link_9.number == 4294967295u) {
-            return;
-        }
-        atlas_search_heap_leaving_lift_FreeBox(new_slice_FreeBox_2(entries.at, entries.len), left, links_7.left, links_7.right, is_8);
-    } else {
-        if (left.number == 4294967295u) {
-            is_49 = atlas_search_heap_is_fork_FreeBox(new_slice_FreeBox(entries.at, entries.len), right);
-            if (!is_49) {
-                atlas_search_heap_set_up_FreeBox(new_slice_FreeBox_2(entries.at, entries.len), right, up);
-                return;
-            }
-        }
-        atlas_search_heap_move_below_FreeBox(new_slice_FreeBox_2(entries.at, entries.len), left, right);
-        is_59 = atlas_search_heap_is_fork_FreeBox(new_slice_FreeBox(entries.at, entries.len), right);
-        if (!is_59) {
-            link_10 = atlas_search_heap_close_FreeBox(new_slice_FreeBox_2(entries.at, entries.len), right, right);
-            atlas_search_heap_put_FreeBox(new_slice_FreeBox_2(entries.at, entries.len), right, up, left, link_10, true);
-            return;
-        }
-        links_11 = atlas_search_heap_links_at_FreeBox(new_slice_FreeBox(entries.at, entries.len), right);
-        is_12 = atlas_search_heap_leaving_is_left_first_FreeBox(new_slice_FreeBox(entries.at, entries.len), links_11.left, links_11.right);
-        if (is_12) {
-            link_74 = links_11.left;
-        } else {
-            link_74 = links_11.right;
-        }
-        link_13 = link_74;
-        atlas_search_heap_put_FreeBox(new_slice_FreeBox_2(entries.at, entries.len), right, up, left, link_13, true);
-        if (link_13.number == 4294967295u) {
-            return;
-        }
-        atlas_search_heap_leaving_lift_FreeBox(new_slice_FreeBox_2(entries.at, entries.len), right, links_11.left, links_11.right, is_12);
+    bool is_7;
+    atlas_search_Link link_19;
+    is_7 = atlas_search_heap_is_fork_FreeBox(new_slice_FreeBox(entries.at, entries.len), at);
+    if (!is_7) {
+        return atlas_search_heap_close_FreeBox(new_slice_FreeBox_2(entries.at, entries.len), at, up);
     }
+    links_4 = atlas_search_heap_links_at_FreeBox(new_slice_FreeBox(entries.at, entries.len), at);
+    is_5 = atlas_search_heap_leaving_is_left_first_FreeBox(new_slice_FreeBox(entries.at, entries.len), links_4.left, links_4.right);
+    if (is_5) {
+        link_19 = links_4.left;
+    } else {
+        link_19 = links_4.right;
+    }
+    link_6 = link_19;
+    if (link_6.number != 4294967295u) {
+        atlas_search_heap_leaving_lift_FreeBox(new_slice_FreeBox_2(entries.at, entries.len), up, links_4.left, links_4.right, is_5);
+    }
+    return link_6;
 }
 
 /* std_alloc/src/vec/ends.rt */
@@ -52449,25 +52530,13 @@ SMALL atlas_search_Mask atlas_search_masks_Mask_without(atlas_search_Mask self, 
     return new_atlas_search_Mask(self.bits & (uint64_t)~(UINT64_C(1) << (k & 63u)));
 }
 
-/* core::int::i32::cast_unsigned */
-SMALL uint32_t core_int_i32_cast_unsigned(uint32_t given_1) {
-    uint32_t n_3;
-    if ((int32_t)given_1 < (int32_t)0u) {
-        n_3 = 4294967295u - (uint32_t)~given_1;
-    } else {
-        n_3 = given_1;
-    }
-    return n_3;
-}
-
-/* The rank of a box with this least margin.
+/* The rank of a box with this least margin, if that is above 0.
  * crates/atlas_search/src/best.rt
  */
-SMALL uint32_t atlas_search_best_rank(uint32_t flip, uint32_t margin) {
-    if (margin == 0u) {
-        return 0u;
-    }
-    return atlas_search_best_rank_above_zero(flip, margin);
+SMALL uint32_t atlas_search_best_rank_above_zero(uint32_t flip, uint32_t margin) {
+    uint32_t n_3;
+    n_3 = core_int_i32_cast_unsigned(margin);
+    return n_3 ^ flip;
 }
 
 /* core/src/ops.rt */
@@ -52610,6 +52679,102 @@ SMALL void core_mem_swap_Allocation(atlas_model_Allocation *x, atlas_model_Alloc
 PART void atlas_search_search_show_below_FreeBox(slice_FreeBox entries, const guillotiere_FreeBox *fork, atlas_search_Best *best,
         uint32_t left, uint32_t right, uint32_t top, uint32_t bottom) {
     atlas_search_search_show_halves_FreeBox(entries, fork, new_atlas_search_Cell(left, right, top, bottom), best);
+}
+
+/* Whether the left one of two entries comes first: it is there, and the right one isn't, or comes no earlier.
+ * crates/atlas_search/src/heap/leaving.rt
+ */
+SMALL bool atlas_search_heap_leaving_is_left_first_FreeBox(slice_FreeBox entries, atlas_search_Link left, atlas_search_Link right) {
+    uint64_t n_5;
+    uint64_t n_6;
+    if (left.number == 4294967295u) {
+        return false;
+    }
+    if (right.number == 4294967295u) {
+        return true;
+    }
+    n_5 = atlas_search_heap_corner_at_FreeBox(entries, left);
+    n_6 = atlas_search_heap_corner_at_FreeBox(entries, right);
+    return n_5 <= n_6;
+}
+
+/* Two heaps hung below a fork that goes. The top that comes first, the left one if `is_left`, takes its place below `up` and is a fork, and
+ * what hung below that one goes on in the same way.
+ * crates/atlas_search/src/heap/leaving.rt
+ */
+PART void atlas_search_heap_leaving_lift_FreeBox(slice_FreeBox_2 entries, atlas_search_Link up, atlas_search_Link left,
+        atlas_search_Link right, bool is_left) {
+    atlas_search_Link link_6;
+    atlas_search_Links links_7;
+    bool is_8;
+    atlas_search_Link link_9;
+    atlas_search_Link link_10;
+    atlas_search_Links links_11;
+    bool is_12;
+    atlas_search_Link link_13;
+    bool is_16;
+    bool is_26;
+    atlas_search_Link link_41;
+    bool is_49;
+    bool is_59;
+    atlas_search_Link link_74;
+    if (is_left) {
+        if (right.number == 4294967295u) {
+            is_16 = atlas_search_heap_is_fork_FreeBox(new_slice_FreeBox(entries.at, entries.len), left);
+            if (!is_16) {
+                atlas_search_heap_set_up_FreeBox(new_slice_FreeBox_2(entries.at, entries.len), left, up);
+                return;
+            }
+        }
+        atlas_search_heap_move_below_FreeBox(new_slice_FreeBox_2(entries.at, entries.len), right, left);
+        is_26 = atlas_search_heap_is_fork_FreeBox(new_slice_FreeBox(entries.at, entries.len), left);
+        if (!is_26) {
+            link_6 = atlas_search_heap_close_FreeBox(new_slice_FreeBox_2(entries.at, entries.len), left, left);
+            atlas_search_heap_put_FreeBox(new_slice_FreeBox_2(entries.at, entries.len), left, up, link_6, right, true);
+            return;
+        }
+        links_7 = atlas_search_heap_links_at_FreeBox(new_slice_FreeBox(entries.at, entries.len), left);
+        is_8 = atlas_search_heap_leaving_is_left_first_FreeBox(new_slice_FreeBox(entries.at, entries.len), links_7.left, links_7.right);
+        if (is_8) {
+            link_41 = links_7.left;
+        } else {
+            link_41 = links_7.right;
+        }
+        link_9 = link_41;
+        atlas_search_heap_put_FreeBox(new_slice_FreeBox_2(entries.at, entries.len), left, up, link_9, right, true);
+        if (link_9.number == 4294967295u) {
+            return;
+        }
+        atlas_search_heap_leaving_lift_FreeBox(new_slice_FreeBox_2(entries.at, entries.len), left, links_7.left, links_7.right, is_8);
+    } else {
+        if (left.number == 4294967295u) {
+            is_49 = atlas_search_heap_is_fork_FreeBox(new_slice_FreeBox(entries.at, entries.len), right);
+            if (!is_49) {
+                atlas_search_heap_set_up_FreeBox(new_slice_FreeBox_2(entries.at, entries.len), right, up);
+                return;
+            }
+        }
+        atlas_search_heap_move_below_FreeBox(new_slice_FreeBox_2(entries.at, entries.len), left, right);
+        is_59 = atlas_search_heap_is_fork_FreeBox(new_slice_FreeBox(entries.at, entries.len), right);
+        if (!is_59) {
+            link_10 = atlas_search_heap_close_FreeBox(new_slice_FreeBox_2(entries.at, entries.len), right, right);
+            atlas_search_heap_put_FreeBox(new_slice_FreeBox_2(entries.at, entries.len), right, up, left, link_10, true);
+            return;
+        }
+        links_11 = atlas_search_heap_links_at_FreeBox(new_slice_FreeBox(entries.at, entries.len), right);
+        is_12 = atlas_search_heap_leaving_is_left_first_FreeBox(new_slice_FreeBox(entries.at, entries.len), links_11.left, links_11.right);
+        if (is_12) {
+            link_74 = links_11.left;
+        } else {
+            link_74 = links_11.right;
+        }
+        link_13 = link_74;
+        atlas_search_heap_put_FreeBox(new_slice_FreeBox_2(entries.at, entries.len), right, up, left, link_13, true);
+        if (link_13.number == 4294967295u) {
+            return;
+        }
+        atlas_search_heap_leaving_lift_FreeBox(new_slice_FreeBox_2(entries.at, entries.len), right, links_11.left, links_11.right, is_12);
+    }
 }
 
 /* Drops the values from `from` up to `to`, in that order.
@@ -54966,6 +55131,17 @@ SMALL Result_ptr std_heap_GlobalAllocator_grow_Option_Placed(const void *self, v
         result_13 = new_Result_ptr_Err();
     }
     return result_13;
+}
+
+/* core::int::i32::cast_unsigned */
+SMALL uint32_t core_int_i32_cast_unsigned(uint32_t given_1) {
+    uint32_t n_3;
+    if ((int32_t)given_1 < (int32_t)0u) {
+        n_3 = 4294967295u - (uint32_t)~given_1;
+    } else {
+        n_3 = given_1;
+    }
+    return n_3;
 }
 
 /* core/src/slice/sort/small.rt */
