@@ -3,13 +3,14 @@
 
 use crate::atlas_model::{Rectangle, Size};
 use crate::atlas_search::bands::{Place, Scale, BANDS};
-use crate::atlas_search::best::{corner, Best, Found};
-use crate::atlas_search::cells::Cell;
-use crate::atlas_search::cut::exact_size;
+use crate::atlas_search::best::{Best, Found};
 use crate::atlas_search::link::Link;
 use crate::atlas_search::masks::Mask;
 use crate::atlas_search::table::{Table, FEW};
+use showing::{show_entry, show_larger, show_list};
 use wollemigo_support::alloc::Allocator;
+
+mod showing;
 
 /// What a search reads of an entry of a list of free boxes.
 pub trait Entry {
@@ -27,109 +28,6 @@ pub trait Entry {
 
     /// Whether what hangs below it is divided by size.
     fn is_fork(&self) -> bool;
-}
-
-// Shows an entry to a search. Answers whether one that hangs below it may be better: where it is a fork, since else those have
-// its size and come no earlier, and where neither it nor a best that comes no later has an equal side.
-#[inline(always)]
-fn show_entry<E: Entry>(entry: &E, at: Link, best: &mut Best) -> bool {
-    let area = entry.rectangle();
-    let corner = corner(area);
-    if best.passes(corner) {
-        return false;
-    }
-    if best.look(area, corner, at) {
-        return false;
-    }
-    entry.is_fork()
-}
-
-// Shows what hangs below a fork of sizes of a cell to a search, but for what can't be the best: of the halves only those are entered that
-// may have a better one.
-#[inline(always)]
-fn show_halves<E: Entry>(entries: &[E], fork: &E, cell: Cell, best: &mut Best) {
-    let halves = cell.halves();
-    if best.may_fit_in(halves.low) {
-        show_within(entries, fork.left(), halves.low, best);
-    }
-    if best.may_gain_in(halves.high) {
-        show_within(entries, fork.right(), halves.high, best);
-    }
-}
-
-// A call of its own for each fork that is entered. The cell comes by its four sides, since a whole one would go through memory.
-#[inline(never)]
-fn show_below<E: Entry>(
-    entries: &[E],
-    fork: &E,
-    best: &mut Best,
-    left: u32,
-    right: u32,
-    top: u32,
-    bottom: u32,
-) {
-    let cell = Cell {
-        left,
-        right,
-        top,
-        bottom,
-    };
-    show_halves(entries, fork, cell, best);
-}
-
-// Shows the entries of a heap with this top and of sizes of a cell to a search, but for those that can't be the best.
-#[inline(always)]
-fn show_within<E: Entry>(entries: &[E], at: Link, cell: Cell, best: &mut Best) {
-    if at.number as usize >= entries.len() {
-        return;
-    }
-    let entry = &entries[at.number as usize];
-    if show_entry(entry, at, best) {
-        show_below(
-            entries,
-            entry,
-            best,
-            cell.left,
-            cell.right,
-            cell.top,
-            cell.bottom,
-        );
-    }
-}
-
-// Shows a list that begins with this to a search.
-#[inline(always)]
-fn show_list<E: Entry>(entries: &[E], top: Link, best: &mut Best) {
-    if top.number as usize >= entries.len() {
-        return;
-    }
-    let entry = &entries[top.number as usize];
-    if show_entry(entry, top, best) {
-        let cell = Cell::around(exact_size(entry.rectangle()));
-        show_halves(entries, entry, cell, best);
-    }
-}
-
-// Shows a list of sizes that are larger than the request's, both sides, to a search. It may be enough to look at its first entry.
-#[inline(always)]
-fn show_larger<E: Entry>(entries: &[E], top: Link, best: &mut Best) {
-    if top.number as usize >= entries.len() {
-        return;
-    }
-    let entry = &entries[top.number as usize];
-    let area = entry.rectangle();
-    let corner = corner(area);
-    if best.passes_larger(corner) {
-        return;
-    }
-    best.look_larger(area, corner, top);
-    if entry.is_fork() {
-        let cell = Cell::around(exact_size(area));
-        if best.ends_in(cell, corner) {
-            return;
-        }
-        show_halves(entries, entry, cell, best);
-    }
 }
 
 // Shows the list at a place to a search.

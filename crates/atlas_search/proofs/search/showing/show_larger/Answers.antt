@@ -4,7 +4,7 @@ use Rattle.atlas_search.specs.Forks.{cell_of}
 use Rattle.atlas_search.proofs.SearchLemmas.HeapSearches.{entry-alike, heap-empty, heap-ended, heap-fork, heap-shown}
 use Rattle.atlas_search.proofs.SearchLemmas.HeapSearches.{list-alone, list-as_heap, list-looked, list-passed, list-read}
 use Rattle.atlas_search.proofs.SearchLemmas.HeapSearches.{list-solid_area}
-use Rattle.atlas_search.proofs.search.show_larger.Goals as goal
+use Rattle.atlas_search.proofs.search.showing.show_larger.Goals as goal
 
 pub returns-then-top-entries : goal.returns-then-top-entries
 returns-then-top-entries g c = λ h r s larger.

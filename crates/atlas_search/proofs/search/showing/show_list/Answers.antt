@@ -4,7 +4,7 @@ use Rattle.atlas_search.specs.Forks.{cell_of}
 use Rattle.atlas_search.proofs.SearchLemmas.HeapSearches.{heap-empty, heap-fork, heap-shown}
 use Rattle.atlas_search.proofs.SearchLemmas.HeapSearches.{list-alone, list-as_heap, list-read}
 use Rattle.atlas_search.proofs.SearchLemmas.HeapSearches.{list-solid, list-solid_area}
-use Rattle.atlas_search.proofs.search.show_list.Goals as goal
+use Rattle.atlas_search.proofs.search.showing.show_list.Goals as goal
 
 pub returns-then-top-entries : goal.returns-then-top-entries
 returns-then-top-entries g c = λ h s.

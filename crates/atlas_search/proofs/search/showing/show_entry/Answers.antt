@@ -1,6 +1,6 @@
 use Rattle.std.proofs.Common.{sym, ◌∙◌, arith, rules}
 use Rattle.atlas_search.proofs.SearchLemmas.HeapSearches.{entry-alike, entry-looked, entry-over, entry-then_over}
-use Rattle.atlas_search.proofs.search.show_entry.Goals as goal
+use Rattle.atlas_search.proofs.search.showing.show_entry.Goals as goal
 
 pub returns-then-passes-clause-all : goal.returns-then-passes-clause-all
 returns-then-passes-clause-all g c = λ _ es is up d l r heap routed.

@@ -6,8 +6,8 @@ use Rattle.atlas_search.proofs.SearchLemmas.Cells.{breadth, high-less, low-less}
 use Rattle.atlas_search.proofs.SearchLemmas.HeapSearches.{fork-high, fork-low, fork-split, heap-alone, heap-empty, heap-fork, heap-outside}
 use Rattle.atlas_search.proofs.SearchLemmas.HeapSearches.{heap-read, heap-shown, heap-solid}
 use Rattle.atlas_search.proofs.SearchLemmas.ShownItems.{shown-then}
-use Rattle.atlas_search.proofs.search.+show.Goals.{show_halves-else-may_fit_in, show_halves-then-may_fit_in}
-use Rattle.atlas_search.proofs.search.+show.Goals as goal
+use Rattle.atlas_search.proofs.search.showing.+show.Goals.{show_halves-else-may_fit_in, show_halves-then-may_fit_in}
+use Rattle.atlas_search.proofs.search.showing.+show.Goals as goal
 
 pub show_halves-show_within-requires : goal.show_halves-show_within-requires
 show_halves-show_within-requires g t c κs within =

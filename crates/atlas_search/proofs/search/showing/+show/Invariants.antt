@@ -1,7 +1,7 @@
 use Rattle.std.proofs.Common.{◌+◌, ◌*◌}
 use Rattle.atlas_search.specs.Showing.{cell_with}
 use Rattle.atlas_search.proofs.SearchLemmas.Cells.{breadth}
-use Rattle.atlas_search.proofs.search.+show.Given as goal
+use Rattle.atlas_search.proofs.search.showing.+show.Given as goal
 
 abbrev pub decreases-show_halves : goal.decreases-show_halves
 decreases-show_halves g l = 3 * breadth l.cell
