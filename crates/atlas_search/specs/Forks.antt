@@ -75,6 +75,11 @@ low c = low_by (is_cut_wide c) c
 abbrev pub high : Cell → Cell
 high c = high_by (is_cut_wide c) c
 
+-- The low half, or the high one.
+abbrev pub half : Bool → Cell → Cell
+half true c = low c
+half false c = high c
+
 -- All entries of a heap have this size, and none is a fork.
 abbrev pub IsAlike : List Item → Sides → Heap → Type 0
 IsAlike es s h = (j : ℕ) → 0 < occurs j (members h)

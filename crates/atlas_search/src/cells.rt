@@ -2,7 +2,7 @@
 ghost use Rattle.std.specs.Prelude.{◌≡◌, ◌+◌, ◌*◌, ◌/◌, ◌<◌, ◌≤◌, ◌⊎◌, true, false};
 ghost use Rattle.atlas_model.specs.Boxes.{IsPositive};
 ghost use Rattle.atlas_model.specs.Pixels.{sides_of};
-ghost use Rattle.atlas_search.specs.Forks.{IsCell, cell_of, end_of, first_of, high, is_cut_wide, low, middle};
+ghost use Rattle.atlas_search.specs.Forks.{IsCell, IsIn, cell_of, end_of, first_of, half, high, is_cut_wide, low, middle};
 
 use atlas_model::Size;
 
@@ -20,6 +20,13 @@ pub struct Cell {
 pub struct Halves {
     pub low: Cell,
     pub high: Cell,
+}
+
+/// One of the halves of a cell, and which one it is.
+#[derive(Clone, Copy)]
+pub struct Half {
+    pub is_low: bool,
+    pub cell: Cell,
 }
 
 // The sides of one step: from one on, and before another.
@@ -149,6 +156,45 @@ impl Cell {
             Halves {
                 low: Cell { bottom: at, ..self },
                 high: Cell { top: at, ..self },
+            }
+        }
+    }
+
+    /// The half that a size of a cell of more than one size is in.
+    #[inline(always)]
+    pub fn half_of(self, size: Size) -> Half
+        requires cell { IsCell self }
+        requires inside { IsIn (sides_of size) self }
+        ensures cell { result.cell ≡ half result.is_low self }
+        ensures inside { IsIn (sides_of size) result.cell }
+    {
+        let width = size.width as u32;
+        let height = size.height as u32;
+        if self.is_cut_wide() {
+            let at = middle(self.left, self.right);
+            if width < at {
+                Half {
+                    is_low: true,
+                    cell: Cell { right: at, ..self },
+                }
+            } else {
+                Half {
+                    is_low: false,
+                    cell: Cell { left: at, ..self },
+                }
+            }
+        } else {
+            let at = middle(self.top, self.bottom);
+            if height < at {
+                Half {
+                    is_low: true,
+                    cell: Cell { bottom: at, ..self },
+                }
+            } else {
+                Half {
+                    is_low: false,
+                    cell: Cell { top: at, ..self },
+                }
             }
         }
     }

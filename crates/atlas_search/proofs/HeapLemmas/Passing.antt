@@ -1,9 +1,9 @@
 -- An entry goes on below a fork that stays where it is.
-use Rattle.std.proofs.Common.{◌≡◌, ◌≢◌, ℕ, ◌<◌, ◌≤◌, ◌⊎◌, true, List, length, refl, ap, sym, ◌∙◌, subst, inl, arith}
+use Rattle.std.proofs.Common.{◌≡◌, ◌≢◌, ℕ, ◌<◌, ◌≤◌, Bool, true, false, List, length, refl, ap, sym, ◌∙◌, subst, inl, arith}
+use Rattle.std.proofs.lemmas.Bool.{true≢false}
 use Rattle.atlas_search.specs.declared.cells.Cell.{Cell}
-use Rattle.atlas_model.specs.Boxes.{Sides}
 use Rattle.atlas_model.specs.Choice.{ComesFirst}
-use Rattle.atlas_search.specs.Forks.{IsSplit, high, low}
+use Rattle.atlas_search.specs.Forks.{IsIn, IsSplit, half, high, low}
 use Rattle.atlas_search.specs.HeapCalls.{CanSort, HasSorted, IsLinked, IsPut, KeepsAreas, KeepsKinds}
 use Rattle.atlas_search.specs.Heaps.{Heap, IsHeap, members}
 use Rattle.atlas_search.specs.Heaps.Heap.{None, Top}
@@ -15,6 +15,17 @@ use Rattle.atlas_search.proofs.HeapLemmas.Frames.{heap-frame}
 use Rattle.atlas_search.proofs.HeapLemmas.Hanging.{top-up}
 use Rattle.atlas_search.proofs.HeapLemmas.Sorting.{sort-high, sort-low, sorted-high, sorted-low}
 use Rattle.atlas_search.proofs.SearchLemmas.Heaps.{occurs-top}
+
+-- What hangs in a half below an entry.
+abbrev pub link_in : Bool → Item → ℕ
+link_in true e = e.left
+link_in false e = e.right
+
+pub left-in : (e : Item) (b : Bool) → b ≡ true → e.left ≡ link_in b e
+left-in e b is = sym (ap (λ k. link_in k e) is)
+
+pub right-in : (e : Item) (b : Bool) → b ≡ false → e.right ≡ link_in b e
+right-in e b is = sym (ap (λ k. link_in k e) is)
 
 -- A heap hangs below one entry alone.
 pub hangs-below : (es : List Item) (above y : ℕ) (q : Heap) → length es ≤ no_slot → IsHeap es above y q → (v : ℕ) (h : Heap)
@@ -64,44 +75,31 @@ module _ (es : List Item) (c : Cell) (above at : ℕ) (h : Heap) (some : above �
   pub pass-split : IsSplit c
   pass-split = (parts.3.routed.1 fork).0
 
-  pub pass-low : (d : Cell) → d ≡ low c → (x : ℕ) → x ≡ (item_at es above).left → (s : Sides) → s ≡ item_sides (item_at es at)
-      → (s.width < d.right) × (s.height < d.bottom) → CanSort es d x at parts.0
-  pass-low d half x link s is has =
-      sort-low es c above at parts.0 parts.1 parts.3 fork above at (inl (refl, refl)) order d half x link
-      (subst (λ (k : Sides). (k.width < d.right) × (k.height < d.bottom)) is has)
+  -- What hangs in a half below it.
+  abbrev pub part : Bool → Heap
+  part true = parts.0
+  part false = parts.1
 
-  pub pass-high : (d e : Cell) → d ≡ low c → e ≡ high c → (x : ℕ) → x ≡ (item_at es above).right → (s : Sides)
-      → s ≡ item_sides (item_at es at) → (d.right ≤ s.width) ⊎ (d.bottom ≤ s.height) → CanSort es e x at parts.1
-  pass-high d e half other x link s is has =
-      sort-high es c above at parts.0 parts.1 parts.3 fork above at (inl (refl, refl)) order d e half other x link
-      (subst (λ (k : Sides). (d.right ≤ k.width) ⊎ (d.bottom ≤ k.height)) is has)
+  pub pass-half : (b : Bool) (d : Cell) → d ≡ half b c → (x : ℕ) → x ≡ link_in b (item_at es above)
+      → IsIn (item_sides (item_at es at)) d → CanSort es d x at (part b)
+  pass-half true = sort-low es c above at parts.0 parts.1 parts.3 fork above at (inl (refl, refl)) order
+  pass-half false = sort-high es c above at parts.0 parts.1 parts.3 fork above at (inl (refl, refl)) order
 
   -- What hangs below it has it above.
-  pub low-up : (x : ℕ) → x ≡ (item_at es above).left → x ≢ no_slot → (item_at es x).up ≡ above
-  low-up x link = top-up es above x parts.0 (subst (λ n. IsHeap es above n parts.0) (sym link) parts.3.heap.2.0)
-
-  pub high-up : (x : ℕ) → x ≡ (item_at es above).right → x ≢ no_slot → (item_at es x).up ≡ above
-  high-up x link = top-up es above x parts.1 (subst (λ n. IsHeap es above n parts.1) (sym link) parts.3.heap.2.1)
+  pub half-up : (b : Bool) (x : ℕ) → x ≡ link_in b (item_at es above) → x ≢ no_slot → (item_at es x).up ≡ above
+  half-up true x link = top-up es above x parts.0 (subst (λ n. IsHeap es above n parts.0) (sym link) parts.3.heap.2.0)
+  half-up false x link = top-up es above x parts.1 (subst (λ n. IsHeap es above n parts.1) (sym link) parts.3.heap.2.1)
 
   -- Sorted into a half, it is sorted in below this entry.
-  pub at-low : (fs : List Item) (d : Cell) → d ≡ low c → (x : ℕ) → HasSorted es fs d above x at parts.0
-      → HasSorted es fs (low c) above x at parts.0
-  at-low fs d half x = subst (λ (k : Cell). HasSorted es fs k above x at parts.0) half
-
-  pub at-high : (fs : List Item) (d : Cell) → d ≡ high c → (x : ℕ) → HasSorted es fs d above x at parts.1
-      → HasSorted es fs (high c) above x at parts.1
-  at-high fs d half x = subst (λ (k : Cell). HasSorted es fs k above x at parts.1) half
+  pub at-half : (b : Bool) (fs : List Item) (d : Cell) → d ≡ half b c → (x : ℕ) → HasSorted es fs d above x at (part b)
+      → HasSorted es fs (half b c) above x at (part b)
+  at-half b fs d is x = subst (λ (k : Cell). HasSorted es fs k above x at (part b)) is
 
   -- So it is where it went on below the half's top, which stays where it hangs.
-  pub from-low : (fs : List Item) (d : Cell) → d ≡ low c → (x : ℕ) → x ≡ (item_at es above).left → x ≢ no_slot
-      → HasSorted es fs d (item_at es x).up x at parts.0 → HasSorted es fs (low c) above x at parts.0
-  from-low fs d half x link there was =
-      at-low fs d half x (subst (λ n. HasSorted es fs d n x at parts.0) (low-up x link there) was)
-
-  pub from-high : (fs : List Item) (d : Cell) → d ≡ high c → (x : ℕ) → x ≡ (item_at es above).right → x ≢ no_slot
-      → HasSorted es fs d (item_at es x).up x at parts.1 → HasSorted es fs (high c) above x at parts.1
-  from-high fs d half x link there was =
-      at-high fs d half x (subst (λ n. HasSorted es fs d n x at parts.1) (high-up x link there) was)
+  pub from-half : (b : Bool) (fs : List Item) (d : Cell) → d ≡ half b c → (x : ℕ) → x ≡ link_in b (item_at es above) → x ≢ no_slot
+      → HasSorted es fs d (item_at es x).up x at (part b) → HasSorted es fs (half b c) above x at (part b)
+  from-half b fs d is x link there was =
+      at-half b fs d is x (subst (λ n. HasSorted es fs d n x at (part b)) (half-up b x link there) was)
 
   module _ (fs : List Item) (x : ℕ) (d : HasSorted es fs (low c) above x at parts.0) where
     kept_right : (k : ℕ) → 0 < occurs k (members parts.1) → item_at fs k ≡ item_at es k
@@ -109,7 +107,7 @@ module _ (es : List Item) (c : Cell) (above at : ℕ) (h : Heap) (some : above �
         d.others k (λ e. omega (arith, l, parts.3.once k, occurs-top k above parts.0 parts.1, ap (λ n. same n at) e, same-self at))
         (omega (arith, l, parts.3.once k, occurs-top k above parts.0 parts.1))
 
-    pub low-kept : item_at fs above ≡ item_at es above
+    low-kept : item_at fs above ≡ item_at es above
     low-kept =
         d.others above
         (λ e. omega (
@@ -122,7 +120,7 @@ module _ (es : List Item) (c : Cell) (above at : ℕ) (h : Heap) (some : above �
         ))
         (omega (arith, parts.3.once above, occurs-top above above parts.0 parts.1, same-self above))
 
-    pub passed-low : (hs : List Item) → KeepsAreas es fs → IsPut fs hs above (item_at es above).up x (item_at es above).right true
+    passed-low : (hs : List Item) → KeepsAreas es fs → IsPut fs hs above (item_at es above).up x (item_at es above).right true
         → HasSorted es hs c (item_at es above).up above at h
     passed-low hs keeps is =
         let y = (item_at es above).right in
@@ -133,7 +131,7 @@ module _ (es : List Item) (c : Cell) (above at : ℕ) (h : Heap) (some : above �
         (heap-frame es fs above y parts.1 keeps.long kept_right parts.3.heap.2.1) v q is_heap)
         (λ k out. refl) (kinds-same fs) is)
 
-    pub stayed-low : KeepsAreas es fs → x ≡ (item_at es above).left → HasSorted es fs c (item_at es above).up above at h
+    stayed-low : KeepsAreas es fs → x ≡ (item_at es above).left → HasSorted es fs c (item_at es above).up above at h
     stayed-low keeps link =
         passed-low fs keeps
         (put-same fs above (item_at es above).up x (item_at es above).right
@@ -141,7 +139,7 @@ module _ (es : List Item) (c : Cell) (above at : ℕ) (h : Heap) (some : above �
         (ap (λ (t : Item). t.right) (sym low-kept))
         (ap (λ (t : Item). t.is_fork) low-kept ∙ fork))
 
-    pub hung-low : (hs : List Item) → KeepsAreas es fs → IsLinked fs hs above (item_at es above).up x (item_at es above).right
+    hung-low : (hs : List Item) → KeepsAreas es fs → IsLinked fs hs above (item_at es above).up x (item_at es above).right
         → HasSorted es hs c (item_at es above).up above at h
     hung-low hs keeps is = passed-low hs keeps
         (put-linked fs hs above (item_at es above).up x (item_at es above).right is (ap (λ (t : Item). t.is_fork) low-kept ∙ fork))
@@ -152,7 +150,7 @@ module _ (es : List Item) (c : Cell) (above at : ℕ) (h : Heap) (some : above �
         d.others k (λ e. omega (arith, l, parts.3.once k, occurs-top k above parts.0 parts.1, ap (λ n. same n at) e, same-self at))
         (omega (arith, l, parts.3.once k, occurs-top k above parts.0 parts.1))
 
-    pub high-kept : item_at fs above ≡ item_at es above
+    high-kept : item_at fs above ≡ item_at es above
     high-kept =
         d.others above
         (λ e. omega (
@@ -165,7 +163,7 @@ module _ (es : List Item) (c : Cell) (above at : ℕ) (h : Heap) (some : above �
         ))
         (omega (arith, parts.3.once above, occurs-top above above parts.0 parts.1, same-self above))
 
-    pub passed-high : (hs : List Item) → KeepsAreas es fs → IsPut fs hs above (item_at es above).up (item_at es above).left x true
+    passed-high : (hs : List Item) → KeepsAreas es fs → IsPut fs hs above (item_at es above).up (item_at es above).left x true
         → HasSorted es hs c (item_at es above).up above at h
     passed-high hs keeps is =
         let y = (item_at es above).left in
@@ -176,7 +174,7 @@ module _ (es : List Item) (c : Cell) (above at : ℕ) (h : Heap) (some : above �
         (heap-frame es fs above y parts.0 keeps.long kept_left parts.3.heap.2.0) v q is_heap)
         (λ k out. refl) (kinds-same fs) is)
 
-    pub stayed-high : KeepsAreas es fs → x ≡ (item_at es above).right → HasSorted es fs c (item_at es above).up above at h
+    stayed-high : KeepsAreas es fs → x ≡ (item_at es above).right → HasSorted es fs c (item_at es above).up above at h
     stayed-high keeps link =
         passed-high fs keeps
         (put-same fs above (item_at es above).up (item_at es above).left x
@@ -184,7 +182,24 @@ module _ (es : List Item) (c : Cell) (above at : ℕ) (h : Heap) (some : above �
         (link ∙ ap (λ (t : Item). t.right) (sym high-kept))
         (ap (λ (t : Item). t.is_fork) high-kept ∙ fork))
 
-    pub hung-high : (hs : List Item) → KeepsAreas es fs → IsLinked fs hs above (item_at es above).up (item_at es above).left x
+    hung-high : (hs : List Item) → KeepsAreas es fs → IsLinked fs hs above (item_at es above).up (item_at es above).left x
         → HasSorted es hs c (item_at es above).up above at h
     hung-high hs keeps is = passed-high hs keeps
         (put-linked fs hs above (item_at es above).up (item_at es above).left x is (ap (λ (t : Item). t.is_fork) high-kept ∙ fork))
+
+  pub stayed-half : (b : Bool) (fs : List Item) (x : ℕ) → HasSorted es fs (half b c) above x at (part b) → KeepsAreas es fs
+      → x ≡ link_in b (item_at es above) → HasSorted es fs c (item_at es above).up above at h
+  stayed-half true = stayed-low
+  stayed-half false = stayed-high
+
+  pub hung-in-low : (b : Bool) → b ≡ true → (fs : List Item) (x : ℕ) → HasSorted es fs (half b c) above x at (part b)
+      → (hs : List Item) → KeepsAreas es fs → IsLinked fs hs above (item_at es above).up x (item_at es above).right
+      → HasSorted es hs c (item_at es above).up above at h
+  hung-in-low true is = hung-low
+  hung-in-low false is = absurd (true≢false (sym is))
+
+  pub hung-in-high : (b : Bool) → b ≡ false → (fs : List Item) (x : ℕ) → HasSorted es fs (half b c) above x at (part b)
+      → (hs : List Item) → KeepsAreas es fs → IsLinked fs hs above (item_at es above).up (item_at es above).left x
+      → HasSorted es hs c (item_at es above).up above at h
+  hung-in-high false is = hung-high
+  hung-in-high true is = absurd (true≢false is)

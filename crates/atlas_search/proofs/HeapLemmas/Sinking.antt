@@ -113,17 +113,13 @@ module _ (es : List Item) (c : Cell) (below at : ℕ) (l r : Heap) (can : CanSor
       → ComesFirst (item_box (item_at es at)) (item_box (item_at es j))
   after-at = after es c below at l r can fork at below (inr (refl, refl)) order
 
-  pub sink-low : (d : Cell) → d ≡ low c → (x : ℕ) → x ≡ (item_at es below).left → (s : Sides) → s ≡ item_sides (item_at es below)
-      → (s.width < d.right) × (s.height < d.bottom) → CanSort es d x below l
-  sink-low d half x link s is has =
-      sort-low es c below at l r can fork at below (inr (refl, refl)) order d half x link
-      (subst (λ (k : Sides). (k.width < d.right) × (k.height < d.bottom)) is has)
+  pub sink-low : (d : Cell) → d ≡ low c → (x : ℕ) → x ≡ (item_at es below).left → IsIn (item_sides (item_at es below)) d
+      → CanSort es d x below l
+  sink-low = sort-low es c below at l r can fork at below (inr (refl, refl)) order
 
-  pub sink-high : (d e : Cell) → d ≡ low c → e ≡ high c → (x : ℕ) → x ≡ (item_at es below).right → (s : Sides)
-      → s ≡ item_sides (item_at es below) → (d.right ≤ s.width) ⊎ (d.bottom ≤ s.height) → CanSort es e x below r
-  sink-high d e half other x link s is has =
-      sort-high es c below at l r can fork at below (inr (refl, refl)) order d e half other x link
-      (subst (λ (k : Sides). (d.right ≤ k.width) ⊎ (d.bottom ≤ k.height)) is has)
+  pub sink-high : (d : Cell) → d ≡ high c → (x : ℕ) → x ≡ (item_at es below).right → IsIn (item_sides (item_at es below)) d
+      → CanSort es d x below r
+  sink-high = sort-high es c below at l r can fork at below (inr (refl, refl)) order
 
   pub sinks-left : (x : ℕ) → x ≡ (item_at es below).left → x ≢ no_slot → ComesFirst (item_box (item_at es below)) (item_box (item_at es x))
   sinks-left x link some =

@@ -4,7 +4,7 @@ use Rattle.std.proofs.lemmas.Bool.{cases_eq, true≢false}
 use Rattle.atlas_search.specs.declared.cells.Cell.{Cell}
 use Rattle.atlas_model.specs.Boxes.{Sides}
 use Rattle.atlas_model.specs.Choice.{ComesFirst}
-use Rattle.atlas_search.specs.Forks.{IsAlike, IsIn, IsRouted, IsSplit, high, low}
+use Rattle.atlas_search.specs.Forks.{IsAlike, IsCell, IsIn, IsRouted, IsSplit, high, low}
 use Rattle.atlas_search.specs.HeapCalls.{AreApart, CanSort, HasSorted, IsForked, IsMelded, IsPut, KeepsAreas, KeepsKinds}
 use Rattle.atlas_search.specs.Heaps.{Heap, IsAbove, IsHeap, members}
 use Rattle.atlas_search.specs.Heaps.Heap.{Top}
@@ -17,7 +17,7 @@ use Rattle.atlas_search.proofs.HeapLemmas.Hanging.{first-of, plain-boxes, top-in
 use Rattle.atlas_search.proofs.HeapLemmas.Joining.{joined-areas, joined-first, joined-others, joined-p, joined-q, put-areas, routes-p}
 use Rattle.atlas_search.proofs.HeapLemmas.Joining.{routes-q}
 use Rattle.atlas_search.proofs.HeapLemmas.Alone.{alone, alone-has, alone-is}
-use Rattle.atlas_search.proofs.SearchLemmas.Cells.{high-cell, in-high, in-low, low-cell, two-sizes}
+use Rattle.atlas_search.proofs.SearchLemmas.Cells.{high-cell, low-cell, two-sizes}
 use Rattle.atlas_search.proofs.SearchLemmas.Heaps.{first-then, heap-inside, none-of, occurs-top, top-first, top-of}
 use Rattle.atlas_search.proofs.SearchLemmas.Routes.{alike-routed, routed-alike, routed-frame, sides-same}
 
@@ -205,37 +205,33 @@ module _ (es : List Item) (c : Cell) (top at : ℕ) (l r : Heap) (can : CanSort 
         ]
   ]
 
-  pub sort-low : (d : Cell) → d ≡ low c → (x : ℕ) → x ≡ (item_at es top).left
-      → ((item_sides (item_at es rest)).width < d.right) × ((item_sides (item_at es rest)).height < d.bottom) → CanSort es d x rest l
-  sort-low d half x link has = subst (λ (k : Cell). CanSort es k x rest l) (sym half) (record {
+  pub sort-low : (d : Cell) → d ≡ low c → (x : ℕ) → x ≡ (item_at es top).left → IsIn (item_sides (item_at es rest)) d
+      → CanSort es d x rest l
+  sort-low d half x link inside = record {
     short = can.short;
-    cell = low-cell c can.cell split;
+    cell = subst IsCell (sym half) (low-cell c can.cell split);
     under = top;
     heap = subst (λ n. IsHeap es top n l) (sym link) can.heap.2.0;
     once = λ k. omega (arith, all k);
     inside = rest-inside;
     exact = λ k m. can.exact k (omega (arith, m, counts k, occurs-top k top l r));
-    routed = (can.routed.1 fork).1;
-    within = in-low c (item_sides (item_at es rest)) rest-in
-        (subst (λ (k : Cell). ((item_sides (item_at es rest)).width < k.right) × ((item_sides (item_at es rest)).height < k.bottom)) half
-        has);
-  })
+    routed = subst (λ (k : Cell). IsRouted es k l) (sym half) (can.routed.1 fork).1;
+    within = inside;
+  }
 
-  pub sort-high : (d e : Cell) → d ≡ low c → e ≡ high c → (x : ℕ) → x ≡ (item_at es top).right
-      → (d.right ≤ (item_sides (item_at es rest)).width) ⊎ (d.bottom ≤ (item_sides (item_at es rest)).height) → CanSort es e x rest r
-  sort-high d e half other x link has = subst (λ (k : Cell). CanSort es k x rest r) (sym other) (record {
+  pub sort-high : (d : Cell) → d ≡ high c → (x : ℕ) → x ≡ (item_at es top).right → IsIn (item_sides (item_at es rest)) d
+      → CanSort es d x rest r
+  sort-high d half x link inside = record {
     short = can.short;
-    cell = high-cell c can.cell split;
+    cell = subst IsCell (sym half) (high-cell c can.cell split);
     under = top;
     heap = subst (λ n. IsHeap es top n r) (sym link) can.heap.2.1;
     once = λ k. omega (arith, all k);
     inside = rest-inside;
     exact = λ k m. can.exact k (omega (arith, m, counts k, occurs-top k top l r));
-    routed = (can.routed.1 fork).2;
-    within = in-high c (item_sides (item_at es rest)) rest-in
-        (subst (λ (k : Cell). (k.right ≤ (item_sides (item_at es rest)).width) ⊎ (k.bottom ≤ (item_sides (item_at es rest)).height)) half
-        has);
-  })
+    routed = subst (λ (k : Cell). IsRouted es k r) (sym half) (can.routed.1 fork).2;
+    within = inside;
+  }
 
   -- The rest went into the low half, and the other one hangs below the first too.
   module _ (fs gs hs : List Item) (up x y : ℕ) (is_y : y ≡ (item_at es top).right) (d : HasSorted es fs (low c) first x rest l)

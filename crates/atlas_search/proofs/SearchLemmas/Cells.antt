@@ -3,7 +3,7 @@ use Rattle.std.proofs.Common.{◌≡◌, ◌≢◌, ℕ, ◌+◌, ◌-◌, ◌*�
 use Rattle.std.proofs.lemmas.Bool.{eqb-true, eqb-false, ltb-true, ltb-false}
 use Rattle.atlas_search.specs.declared.cells.Cell.{Cell}
 use Rattle.atlas_model.specs.Boxes.{Sides, IsPositive}
-use Rattle.atlas_search.specs.Forks.{IsCell, IsIn, IsSplit, cell_of, end_of, first_of, high, high_by, is_cut_wide, low, low_by, middle}
+use Rattle.atlas_search.specs.Forks.{IsCell, IsIn, IsSplit, cell_of, end_of, first_of, half, high, high_by, is_cut_wide, low, low_by, middle}
 
 -- How many sides a cell has.
 abbrev pub breadth : Cell → ℕ
@@ -148,23 +148,10 @@ low-within c s is h = low-is_within (is_cut_wide c) c s is h
 pub high-within : (c : Cell) (s : Sides) → IsIn s (high c) → IsIn s c
 high-within c s h = high-is_within (is_cut_wide c) c s h
 
--- In which half a size is.
-low-has : (b : Bool) (c : Cell) (s : Sides) → IsIn s c → s.width < (low_by b c).right → s.height < (low_by b c).bottom → IsIn s (low_by b c)
-low-has true c s h w t = record { left = h.left; right = w; top = h.top; bottom = h.bottom }
-low-has false c s h w t = record { left = h.left; right = h.right; top = h.top; bottom = t }
-
-high-has : (b : Bool) (c : Cell) (s : Sides) → IsIn s c → ((low_by b c).right ≤ s.width) ⊎ ((low_by b c).bottom ≤ s.height) →
-    IsIn s (high_by b c)
-high-has true c s h (inl w) = record { left = w; right = h.right; top = h.top; bottom = h.bottom }
-high-has true c s h (inr t) = absurd (omega (arith, t, h.bottom))
-high-has false c s h (inl w) = absurd (omega (arith, w, h.right))
-high-has false c s h (inr t) = record { left = h.left; right = h.right; top = t; bottom = h.bottom }
-
-pub in-low : (c : Cell) (s : Sides) → IsIn s c → (s.width < (low c).right) × (s.height < (low c).bottom) → IsIn s (low c)
-in-low c s h l = low-has (is_cut_wide c) c s h l.0 l.1
-
-pub in-high : (c : Cell) (s : Sides) → IsIn s c → ((low c).right ≤ s.width) ⊎ ((low c).bottom ≤ s.height) → IsIn s (high c)
-in-high c s h l = high-has (is_cut_wide c) c s h l
+-- A half has fewer sides.
+pub half-less : (b : Bool) (c : Cell) → IsCell c → IsSplit c → breadth (half b c) < breadth c
+half-less true = low-less
+half-less false = high-less
 
 -- A cell with two sizes has more than one.
 pub two-sizes : (c : Cell) (s t : Sides) → IsIn s c → IsIn t c → s ≢ t → IsSplit c

@@ -1,6 +1,7 @@
-use Rattle.std.proofs.Common.{map, ap, sym, subst, arith}
+use Rattle.std.proofs.Common.{map, ap, sym, ◌∙◌, subst, arith}
 use Rattle.std.proofs.lemmas.List.{length-map}
-use Rattle.atlas_model.specs.Pixels.{sides_of}
+use Rattle.atlas_model.specs.Boxes.{Sides}
+use Rattle.atlas_search.specs.Forks.{IsIn, half}
 use Rattle.atlas_search.specs.Heaps.{IsHeap}
 use Rattle.atlas_search.specs.Heaps.Heap.{Top}
 use Rattle.atlas_search.specs.Showing.{cell_with}
@@ -109,6 +110,15 @@ size_at-requires-clause-solid g t c =
     let f = c.make_fork.ensures.forked at q.sorted.0 q.sorted.1 in
     sort-solid ms ms cell below at (Top below f.left f.right) f.can some
 
+pub half_of-half-requires-clause-cell : goal.half_of-half-requires-clause-cell
+half_of-half-requires-clause-cell g t c = c.requires.sorted.1.cell
+
+pub half_of-half-requires-clause-inside : goal.half_of-half-requires-clause-inside
+half_of-half-requires-clause-inside g t c =
+    let f = c.make_fork.ensures.forked c.args.at.number c.requires.sorted.0 c.requires.sorted.1 in
+    subst (λ (s : Sides). IsIn s (cell_with c.args.left c.args.right c.args.top c.args.bottom)) (sym c.size_at.ensures.sides)
+    f.can.routed.0
+
 pub move_below-requires-clause-inside : goal.move_below-requires-clause-inside
 move_below-requires-clause-inside g t c = λ more.
     let es = map g.E.Entry.item c.args.entries.now in
@@ -122,8 +132,8 @@ move_below-requires-clause-inside g t c = λ more.
     let y = c.links_at-links.result.right.number in
     omega (
       arith,
-      length-map c.put-then-is_below_ends.new.entries g.E.Entry.item,
-      c.put-then-is_below_ends.ensures.put.long,
+      length-map c.put-then-half.new.entries g.E.Entry.item,
+      c.put-then-half.ensures.put.long,
       (top-of ms below y f.right (subst (λ n. IsHeap ms below n f.right) (sym c.links_at-links.ensures.right) f.can.heap.2.1) more).inside,
     )
 
@@ -139,21 +149,22 @@ sink-requires g t c κs within =
     let f = c.make_fork.ensures.forked at q.sorted.0 q.sorted.1 in
     let split = sort-splits es es cell below at q.sorted.0 q.sorted.1 some (c.is_alike.ensures.no c.if-is_alike.false) in
     let order = order-kept es ms c.make_fork.ensures.areas at below (q.order some) in
-    let half = c.halves-halves in
+    let into = c.half_of-half in
+    let is_low = into.ensures.cell ∙ ap (λ b. half b cell) c.if-half.true in
     let k = c.links_at-links in
-    let ps = map g.E.Entry.item c.put-then-is_below_ends.new.entries in
+    let ps = map g.E.Entry.item c.put-then-half.new.entries in
     let gs = map g.E.Entry.item c.move_below.new.entries in
     let up = c.args.up.number in
     let x = k.result.left.number in
     let y = k.result.right.number in
     let moved = c.move_below.ensures in
-    let goes = low-goes ms cell below at f.left f.right f.can f.fork order ps gs up y k.ensures.right c.put-then-is_below_ends.ensures.put
-    moved.moved moved.others moved.kinds half.result.low x
-    (sink-low ms cell below at f.left f.right f.can f.fork order half.result.low half.ensures.low x k.ensures.left
-    (sides_of c.size_at.result) c.size_at.ensures.sides (c.is_below_ends.ensures.yes c.if-is_below_ends.true)) in
-    let keeps = low-areas ms cell below at f.left f.right f.can f.fork order ps gs up y k.ensures.right c.put-then-is_below_ends.ensures.put
+    let goes = low-goes ms cell below at f.left f.right f.can f.fork order ps gs up y k.ensures.right c.put-then-half.ensures.put
+    moved.moved moved.others moved.kinds into.result.cell x
+    (sink-low ms cell below at f.left f.right f.can f.fork order into.result.cell is_low x k.ensures.left
+    (subst (λ (s : Sides). IsIn s into.result.cell) c.size_at.ensures.sides into.ensures.inside)) in
+    let keeps = low-areas ms cell below at f.left f.right f.can f.fork order ps gs up y k.ensures.right c.put-then-half.ensures.put
     moved.moved moved.others moved.kinds in (
-      omega (arith, c.decreases, ap breadth half.ensures.low, low-less cell q.sorted.1.cell split),
+      omega (arith, c.decreases, ap breadth is_low, low-less cell q.sorted.1.cell split),
       (
         within,
         (
@@ -163,8 +174,8 @@ sink-requires g t c κs within =
       ),
     )
 
-pub returns-then-is_below_ends-clause-sorted : goal.returns-then-is_below_ends-clause-sorted
-returns-then-is_below_ends-clause-sorted g t c = λ h can.
+pub returns-then-half-clause-sorted : goal.returns-then-half-clause-sorted
+returns-then-half-clause-sorted g t c = λ h can.
     let es = map g.E.Entry.item c.args.entries.now in
     let q = c.requires in
     let cell = cell_with c.args.left c.args.right c.args.top c.args.bottom in
@@ -174,27 +185,28 @@ returns-then-is_below_ends-clause-sorted g t c = λ h can.
     let ms = map g.E.Entry.item c.make_fork.new.entries in
     let f = c.make_fork.ensures.forked at h can in
     let order = order-kept es ms c.make_fork.ensures.areas at below (q.order some) in
-    let half = c.halves-halves in
+    let into = c.half_of-half in
+    let is_low = into.ensures.cell ∙ ap (λ b. half b cell) c.if-half.true in
     let k = c.links_at-links in
-    let ps = map g.E.Entry.item c.put-then-is_below_ends.new.entries in
+    let ps = map g.E.Entry.item c.put-then-half.new.entries in
     let gs = map g.E.Entry.item c.move_below.new.entries in
     let up = c.args.up.number in
     let x = k.result.left.number in
     let y = k.result.right.number in
     let moved = c.move_below.ensures in
-    let goes = low-goes ms cell below at f.left f.right f.can f.fork order ps gs up y k.ensures.right c.put-then-is_below_ends.ensures.put
-    moved.moved moved.others moved.kinds half.result.low x
-    (sink-low ms cell below at f.left f.right f.can f.fork order half.result.low half.ensures.low x k.ensures.left
-    (sides_of c.size_at.result) c.size_at.ensures.sides (c.is_below_ends.ensures.yes c.if-is_below_ends.true)) in
+    let goes = low-goes ms cell below at f.left f.right f.can f.fork order ps gs up y k.ensures.right c.put-then-half.ensures.put
+    moved.moved moved.others moved.kinds into.result.cell x
+    (sink-low ms cell below at f.left f.right f.can f.fork order into.result.cell is_low x k.ensures.left
+    (subst (λ (s : Sides). IsIn s into.result.cell) c.size_at.ensures.sides into.ensures.inside)) in
     let fs = map g.E.Entry.item c.sink.new.entries in
     forked-sorted es ms fs cell up below at at h f
-    (sunk-low ms cell below at f.left f.right f.can f.fork order ps gs up y k.ensures.right c.put-then-is_below_ends.ensures.put
+    (sunk-low ms cell below at f.left f.right f.can f.fork order ps gs up y k.ensures.right c.put-then-half.ensures.put
     moved.moved moved.others moved.kinds fs
-    (at-low gs fs cell half.result.low half.ensures.low at below f.left (c.sink.ensures.sorted f.left goes))
+    (at-low gs fs cell into.result.cell is_low at below f.left (c.sink.ensures.sorted f.left goes))
     c.sink.ensures.areas)
 
-pub move_below-requires-else-is_below_ends-clause-inside : goal.move_below-requires-else-is_below_ends-clause-inside
-move_below-requires-else-is_below_ends-clause-inside g t c = λ more.
+pub move_below-requires-else-half-clause-inside : goal.move_below-requires-else-half-clause-inside
+move_below-requires-else-half-clause-inside g t c = λ more.
     let es = map g.E.Entry.item c.args.entries.now in
     let q = c.requires in
     let cell = cell_with c.args.left c.args.right c.args.top c.args.bottom in
@@ -206,13 +218,13 @@ move_below-requires-else-is_below_ends-clause-inside g t c = λ more.
     let y = c.links_at-links.result.left.number in
     omega (
       arith,
-      length-map c.put-else-is_below_ends.new.entries g.E.Entry.item,
-      c.put-else-is_below_ends.ensures.put.long,
+      length-map c.put-else-half.new.entries g.E.Entry.item,
+      c.put-else-half.ensures.put.long,
       (top-of ms below y f.left (subst (λ n. IsHeap ms below n f.left) (sym c.links_at-links.ensures.left) f.can.heap.2.0) more).inside,
     )
 
-pub sink-requires-else-is_below_ends : goal.sink-requires-else-is_below_ends
-sink-requires-else-is_below_ends g t c κs within =
+pub sink-requires-else-half : goal.sink-requires-else-half
+sink-requires-else-half g t c κs within =
     let es = map g.E.Entry.item c.args.entries.now in
     let q = c.requires in
     let cell = cell_with c.args.left c.args.right c.args.top c.args.bottom in
@@ -223,21 +235,22 @@ sink-requires-else-is_below_ends g t c κs within =
     let f = c.make_fork.ensures.forked at q.sorted.0 q.sorted.1 in
     let split = sort-splits es es cell below at q.sorted.0 q.sorted.1 some (c.is_alike.ensures.no c.if-is_alike.false) in
     let order = order-kept es ms c.make_fork.ensures.areas at below (q.order some) in
-    let half = c.halves-halves in
+    let into = c.half_of-half in
+    let is_high = into.ensures.cell ∙ ap (λ b. half b cell) c.if-half.false in
     let k = c.links_at-links in
-    let ps = map g.E.Entry.item c.put-else-is_below_ends.new.entries in
-    let gs = map g.E.Entry.item c.move_below-else-is_below_ends.new.entries in
+    let ps = map g.E.Entry.item c.put-else-half.new.entries in
+    let gs = map g.E.Entry.item c.move_below-else-half.new.entries in
     let up = c.args.up.number in
     let x = k.result.right.number in
     let y = k.result.left.number in
-    let moved = c.move_below-else-is_below_ends.ensures in
-    let goes = high-goes ms cell below at f.left f.right f.can f.fork order ps gs up y k.ensures.left c.put-else-is_below_ends.ensures.put
-    moved.moved moved.others moved.kinds half.result.high x
-    (sink-high ms cell below at f.left f.right f.can f.fork order half.result.low half.result.high half.ensures.low half.ensures.high
-    x k.ensures.right (sides_of c.size_at.result) c.size_at.ensures.sides (c.is_below_ends.ensures.no c.if-is_below_ends.false)) in
-    let keeps = high-areas ms cell below at f.left f.right f.can f.fork order ps gs up y k.ensures.left c.put-else-is_below_ends.ensures.put
+    let moved = c.move_below-else-half.ensures in
+    let goes = high-goes ms cell below at f.left f.right f.can f.fork order ps gs up y k.ensures.left c.put-else-half.ensures.put
+    moved.moved moved.others moved.kinds into.result.cell x
+    (sink-high ms cell below at f.left f.right f.can f.fork order into.result.cell is_high x k.ensures.right
+    (subst (λ (s : Sides). IsIn s into.result.cell) c.size_at.ensures.sides into.ensures.inside)) in
+    let keeps = high-areas ms cell below at f.left f.right f.can f.fork order ps gs up y k.ensures.left c.put-else-half.ensures.put
     moved.moved moved.others moved.kinds in (
-      omega (arith, c.decreases, ap breadth half.ensures.high, high-less cell q.sorted.1.cell split),
+      omega (arith, c.decreases, ap breadth is_high, high-less cell q.sorted.1.cell split),
       (
         within,
         (
@@ -247,8 +260,8 @@ sink-requires-else-is_below_ends g t c κs within =
       ),
     )
 
-pub returns-else-is_below_ends-clause-sorted : goal.returns-else-is_below_ends-clause-sorted
-returns-else-is_below_ends-clause-sorted g t c = λ h can.
+pub returns-else-half-clause-sorted : goal.returns-else-half-clause-sorted
+returns-else-half-clause-sorted g t c = λ h can.
     let es = map g.E.Entry.item c.args.entries.now in
     let q = c.requires in
     let cell = cell_with c.args.left c.args.right c.args.top c.args.bottom in
@@ -258,21 +271,22 @@ returns-else-is_below_ends-clause-sorted g t c = λ h can.
     let ms = map g.E.Entry.item c.make_fork.new.entries in
     let f = c.make_fork.ensures.forked at h can in
     let order = order-kept es ms c.make_fork.ensures.areas at below (q.order some) in
-    let half = c.halves-halves in
+    let into = c.half_of-half in
+    let is_high = into.ensures.cell ∙ ap (λ b. half b cell) c.if-half.false in
     let k = c.links_at-links in
-    let ps = map g.E.Entry.item c.put-else-is_below_ends.new.entries in
-    let gs = map g.E.Entry.item c.move_below-else-is_below_ends.new.entries in
+    let ps = map g.E.Entry.item c.put-else-half.new.entries in
+    let gs = map g.E.Entry.item c.move_below-else-half.new.entries in
     let up = c.args.up.number in
     let x = k.result.right.number in
     let y = k.result.left.number in
-    let moved = c.move_below-else-is_below_ends.ensures in
-    let goes = high-goes ms cell below at f.left f.right f.can f.fork order ps gs up y k.ensures.left c.put-else-is_below_ends.ensures.put
-    moved.moved moved.others moved.kinds half.result.high x
-    (sink-high ms cell below at f.left f.right f.can f.fork order half.result.low half.result.high half.ensures.low half.ensures.high
-    x k.ensures.right (sides_of c.size_at.result) c.size_at.ensures.sides (c.is_below_ends.ensures.no c.if-is_below_ends.false)) in
-    let fs = map g.E.Entry.item c.sink-else-is_below_ends.new.entries in
+    let moved = c.move_below-else-half.ensures in
+    let goes = high-goes ms cell below at f.left f.right f.can f.fork order ps gs up y k.ensures.left c.put-else-half.ensures.put
+    moved.moved moved.others moved.kinds into.result.cell x
+    (sink-high ms cell below at f.left f.right f.can f.fork order into.result.cell is_high x k.ensures.right
+    (subst (λ (s : Sides). IsIn s into.result.cell) c.size_at.ensures.sides into.ensures.inside)) in
+    let fs = map g.E.Entry.item c.sink-else-half.new.entries in
     forked-sorted es ms fs cell up below at at h f
-    (sunk-high ms cell below at f.left f.right f.can f.fork order ps gs up y k.ensures.left c.put-else-is_below_ends.ensures.put
+    (sunk-high ms cell below at f.left f.right f.can f.fork order ps gs up y k.ensures.left c.put-else-half.ensures.put
     moved.moved moved.others moved.kinds fs
-    (at-high gs fs cell half.result.high half.ensures.high at below f.right (c.sink-else-is_below_ends.ensures.sorted f.right goes))
-    c.sink-else-is_below_ends.ensures.areas)
+    (at-high gs fs cell into.result.cell is_high at below f.right (c.sink-else-half.ensures.sorted f.right goes))
+    c.sink-else-half.ensures.areas)

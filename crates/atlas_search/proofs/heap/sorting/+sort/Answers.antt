@@ -1,20 +1,23 @@
-use Rattle.std.proofs.Common.{map, ap, refl, sym, ◌∙◌, subst, arith}
+use Rattle.std.proofs.Common.{◌≡◌, map, ap, refl, sym, ◌∙◌, subst, arith}
 use Rattle.std.proofs.lemmas.List.{length-map}
-use Rattle.atlas_model.specs.Pixels.{sides_of}
+use Rattle.atlas_model.specs.Boxes.{Sides}
+use Rattle.atlas_search.specs.Forks.{IsIn}
 use Rattle.atlas_search.specs.HeapCalls.{HasSorted}
 use Rattle.atlas_search.specs.Heaps.Heap.{Top}
 use Rattle.atlas_search.specs.Items.{item_at, item_box}
 use Rattle.atlas_search.specs.Showing.{cell_with}
+use Rattle.atlas_search.specs.declared.link.Link.{Link}
 use Rattle.atlas_search.proofs.HeapLemmas.Alone.{alone}
 use Rattle.atlas_search.proofs.HeapLemmas.Hanging.{plain-areas, plain-then}
 use Rattle.atlas_search.proofs.HeapLemmas.Melding.{linked-areas, linked-as, linked-by}
-use Rattle.atlas_search.proofs.HeapLemmas.Passing.{at-high, at-low, from-high, from-low, high-up, hung-high, hung-low, low-up, pass-high}
-use Rattle.atlas_search.proofs.HeapLemmas.Passing.{pass-inside, pass-low, pass-split, stayed-high, stayed-low}
+use Rattle.atlas_search.proofs.HeapLemmas.Passing.{at-half, from-half, half-up, hung-in-high, hung-in-low, left-in, link_in, pass-half}
+use Rattle.atlas_search.proofs.HeapLemmas.Passing.{pass-inside, pass-split, right-in, stayed-half}
 use Rattle.atlas_search.proofs.HeapLemmas.Sinking.{order-kept}
 use Rattle.atlas_search.proofs.HeapLemmas.Sorting.{forked-sorted, sort-inside, sort-solid, sort-splits, sorted-alike, sorted-alone}
 use Rattle.atlas_search.proofs.HeapLemmas.Sorting.{sorted-apart}
-use Rattle.atlas_search.proofs.SearchLemmas.Cells.{breadth, high-less, low-less}
+use Rattle.atlas_search.proofs.SearchLemmas.Cells.{breadth, half-less}
 use Rattle.atlas_search.proofs.SearchLemmas.Heaps.{corner-first}
+use Rattle.atlas_search.proofs.heap.sorting.+sort.Goals.{sort_below-then-half, sort_below-else-half}
 use Rattle.atlas_search.proofs.heap.sorting.+sort.Goals as goal
 
 pub sort_in-returns-then-top-eq-NO_SLOT-clause-sorted : goal.sort_in-returns-then-top-eq-NO_SLOT-clause-sorted
@@ -137,118 +140,162 @@ sort_in-returns-clause-sorted g t c = λ h can.
     (subst (λ n. HasSorted ms fs cell n top at (Top top f.left f.right)) (f.up ∙ q.hangs some)
     (c.sort_below.ensures.sorted (Top top f.left f.right) f.can))
 
+pub sort_below-half_of-half-requires-clause-cell : goal.sort_below-half_of-half-requires-clause-cell
+sort_below-half_of-half-requires-clause-cell g t c = c.requires.sorted.1.cell
+
+pub sort_below-half_of-half-requires-clause-inside : goal.sort_below-half_of-half-requires-clause-inside
+sort_below-half_of-half-requires-clause-inside g t c =
+    subst (λ (s : Sides). IsIn s (cell_with c.args.left c.args.right c.args.top c.args.bottom)) (sym c.size_at.ensures.sides)
+    c.requires.sorted.1.within
+
 pub sort_below-is_fork_before-requires-clause-top : goal.sort_below-is_fork_before-requires-clause-top
 sort_below-is_fork_before-requires-clause-top g t c = λ there.
     let es = map g.E.Entry.item c.args.entries.now in
     let q = c.requires in
-    let half = c.halves-halves in
+    let into = c.half_of-half in
+    let low = into.result.is_low in
     let k = c.links_at-links in
+    let next = c.if-half.next.number in
     let cell = cell_with c.args.left c.args.right c.args.top c.args.bottom in
     let above = c.args.above.number in
     let at = c.args.at.number in
-    let part = pass-low es cell above at q.sorted.0 q.some q.sorted.1 q.fork q.order half.result.low half.ensures.low k.result.left.number
-    k.ensures.left (sides_of c.size_at.result) c.size_at.ensures.sides (c.is_below_ends.ensures.yes c.if-is_below_ends.true) in
+    let link : next ≡ link_in low (item_at es above) = elim c.if-half.branch [
+      | sort_below-then-half w ↦ ap (λ (n : Link). n.number) w.next-is ∙ k.ensures.left ∙ left-in (item_at es above) low w.if-half.true
+      | sort_below-else-half w ↦ ap (λ (n : Link). n.number) w.next-is ∙ k.ensures.right ∙ right-in (item_at es above) low w.if-half.false
+    ] in
+    let part = pass-half es cell above at q.sorted.0 q.some q.sorted.1 q.fork q.order low into.result.cell into.ensures.cell next link
+    (subst (λ (s : Sides). IsIn s into.result.cell) c.size_at.ensures.sides into.ensures.inside) in
     omega (
       arith,
       length-map c.args.entries.now g.E.Entry.item,
-      sort-inside es es half.result.low k.result.left.number at _ part there,
+      sort-inside es es into.result.cell next at _ part there,
     )
 
 pub sort_below-is_fork_before-requires-clause-top_solid : goal.sort_below-is_fork_before-requires-clause-top_solid
 sort_below-is_fork_before-requires-clause-top_solid g t c = λ there.
     let es = map g.E.Entry.item c.args.entries.now in
     let q = c.requires in
-    let half = c.halves-halves in
+    let into = c.half_of-half in
+    let low = into.result.is_low in
     let k = c.links_at-links in
+    let next = c.if-half.next.number in
     let cell = cell_with c.args.left c.args.right c.args.top c.args.bottom in
     let above = c.args.above.number in
     let at = c.args.at.number in
-    let part = pass-low es cell above at q.sorted.0 q.some q.sorted.1 q.fork q.order half.result.low half.ensures.low k.result.left.number
-    k.ensures.left (sides_of c.size_at.result) c.size_at.ensures.sides (c.is_below_ends.ensures.yes c.if-is_below_ends.true) in
-    sort-solid es es half.result.low k.result.left.number at _ part there
+    let link : next ≡ link_in low (item_at es above) = elim c.if-half.branch [
+      | sort_below-then-half w ↦ ap (λ (n : Link). n.number) w.next-is ∙ k.ensures.left ∙ left-in (item_at es above) low w.if-half.true
+      | sort_below-else-half w ↦ ap (λ (n : Link). n.number) w.next-is ∙ k.ensures.right ∙ right-in (item_at es above) low w.if-half.false
+    ] in
+    let part = pass-half es cell above at q.sorted.0 q.some q.sorted.1 q.fork q.order low into.result.cell into.ensures.cell next link
+    (subst (λ (s : Sides). IsIn s into.result.cell) c.size_at.ensures.sides into.ensures.inside) in
+    sort-solid es es into.result.cell next at _ part there
 
 pub sort_below-sort_below-requires : goal.sort_below-sort_below-requires
 sort_below-sort_below-requires g t c κs within =
     let es = map g.E.Entry.item c.args.entries.now in
     let q = c.requires in
-    let half = c.halves-halves in
+    let into = c.half_of-half in
+    let low = into.result.is_low in
     let k = c.links_at-links in
+    let next = c.if-half.next.number in
     let cell = cell_with c.args.left c.args.right c.args.top c.args.bottom in
     let above = c.args.above.number in
     let at = c.args.at.number in
-    let part = pass-low es cell above at q.sorted.0 q.some q.sorted.1 q.fork q.order half.result.low half.ensures.low k.result.left.number
-    k.ensures.left (sides_of c.size_at.result) c.size_at.ensures.sides (c.is_below_ends.ensures.yes c.if-is_below_ends.true) in
+    let link : next ≡ link_in low (item_at es above) = elim c.if-half.branch [
+      | sort_below-then-half w ↦ ap (λ (n : Link). n.number) w.next-is ∙ k.ensures.left ∙ left-in (item_at es above) low w.if-half.true
+      | sort_below-else-half w ↦ ap (λ (n : Link). n.number) w.next-is ∙ k.ensures.right ∙ right-in (item_at es above) low w.if-half.false
+    ] in
+    let part = pass-half es cell above at q.sorted.0 q.some q.sorted.1 q.fork q.order low into.result.cell into.ensures.cell next link
+    (subst (λ (s : Sides). IsIn s into.result.cell) c.size_at.ensures.sides into.ensures.inside) in
     let yes = c.if-is_fork_before.true in
+    let is = c.is_fork_before.ensures in
     let split = pass-split es cell above at q.sorted.0 q.some q.sorted.1 q.fork q.order in (
-      omega (arith, c.decreases, ap breadth half.ensures.low, low-less cell q.sorted.1.cell split),
-      (within, (c.is_fork_before.ensures.some yes, (c.is_fork_before.ensures.fork yes, (c.is_fork_before.ensures.order yes, (_, part))))),
+      omega (arith, c.decreases, ap breadth into.ensures.cell, half-less low cell q.sorted.1.cell split),
+      (within, (is.some yes, (is.fork yes, (is.order yes, (_, part))))),
     )
 
 pub sort_below-returns-then-is_fork_before-clause-sorted : goal.sort_below-returns-then-is_fork_before-clause-sorted
 sort_below-returns-then-is_fork_before-clause-sorted g t c = λ h can.
     let es = map g.E.Entry.item c.args.entries.now in
     let q = c.requires in
-    let half = c.halves-halves in
+    let into = c.half_of-half in
+    let low = into.result.is_low in
     let k = c.links_at-links in
+    let next = c.if-half.next.number in
     let cell = cell_with c.args.left c.args.right c.args.top c.args.bottom in
     let above = c.args.above.number in
     let at = c.args.at.number in
-    let part = pass-low es cell above at h q.some can q.fork q.order half.result.low half.ensures.low k.result.left.number
-    k.ensures.left (sides_of c.size_at.result) c.size_at.ensures.sides (c.is_below_ends.ensures.yes c.if-is_below_ends.true) in
+    let link : next ≡ link_in low (item_at es above) = elim c.if-half.branch [
+      | sort_below-then-half w ↦ ap (λ (n : Link). n.number) w.next-is ∙ k.ensures.left ∙ left-in (item_at es above) low w.if-half.true
+      | sort_below-else-half w ↦ ap (λ (n : Link). n.number) w.next-is ∙ k.ensures.right ∙ right-in (item_at es above) low w.if-half.false
+    ] in
+    let part = pass-half es cell above at h q.some can q.fork q.order low into.result.cell into.ensures.cell next link
+    (subst (λ (s : Sides). IsIn s into.result.cell) c.size_at.ensures.sides into.ensures.inside) in
     let below = c.sort_below in
     let fs = map g.E.Entry.item below.new.entries in
-    stayed-low es cell above at h q.some can q.fork q.order fs k.result.left.number
-    (from-low es cell above at h q.some can q.fork q.order fs half.result.low half.ensures.low k.result.left.number k.ensures.left
-    (c.is_fork_before.ensures.some c.if-is_fork_before.true) (below.ensures.sorted _ part)) below.ensures.areas k.ensures.left
+    stayed-half es cell above at h q.some can q.fork q.order low fs next
+    (from-half es cell above at h q.some can q.fork q.order low fs into.result.cell into.ensures.cell next link
+    (c.is_fork_before.ensures.some c.if-is_fork_before.true) (below.ensures.sorted _ part)) below.ensures.areas link
 
 pub sort_below-sort_in-side-requires : goal.sort_below-sort_in-side-requires
 sort_below-sort_in-side-requires g t c κs within =
     let es = map g.E.Entry.item c.args.entries.now in
     let q = c.requires in
-    let half = c.halves-halves in
+    let into = c.half_of-half in
+    let low = into.result.is_low in
     let k = c.links_at-links in
+    let next = c.if-half.next.number in
     let cell = cell_with c.args.left c.args.right c.args.top c.args.bottom in
     let above = c.args.above.number in
     let at = c.args.at.number in
-    let part = pass-low es cell above at q.sorted.0 q.some q.sorted.1 q.fork q.order half.result.low half.ensures.low k.result.left.number
-    k.ensures.left (sides_of c.size_at.result) c.size_at.ensures.sides (c.is_below_ends.ensures.yes c.if-is_below_ends.true) in
+    let link : next ≡ link_in low (item_at es above) = elim c.if-half.branch [
+      | sort_below-then-half w ↦ ap (λ (n : Link). n.number) w.next-is ∙ k.ensures.left ∙ left-in (item_at es above) low w.if-half.true
+      | sort_below-else-half w ↦ ap (λ (n : Link). n.number) w.next-is ∙ k.ensures.right ∙ right-in (item_at es above) low w.if-half.false
+    ] in
+    let part = pass-half es cell above at q.sorted.0 q.some q.sorted.1 q.fork q.order low into.result.cell into.ensures.cell next link
+    (subst (λ (s : Sides). IsIn s into.result.cell) c.size_at.ensures.sides into.ensures.inside) in
     let split = pass-split es cell above at q.sorted.0 q.some q.sorted.1 q.fork q.order in (
-      omega (arith, c.decreases, ap breadth half.ensures.low, low-less cell q.sorted.1.cell split),
+      omega (arith, c.decreases, ap breadth into.ensures.cell, half-less low cell q.sorted.1.cell split),
       (
         within,
-        (low-up es cell above at q.sorted.0 q.some q.sorted.1 q.fork q.order k.result.left.number k.ensures.left, (_, part)),
+        (half-up es cell above at q.sorted.0 q.some q.sorted.1 q.fork q.order low next link, (_, part)),
       ),
     )
 
-pub sort_below-returns-else-is_fork_before-clause-sorted : goal.sort_below-returns-else-is_fork_before-clause-sorted
-sort_below-returns-else-is_fork_before-clause-sorted g t c = λ h can.
+pub sort_below-returns-then-half-2-clause-sorted : goal.sort_below-returns-then-half-2-clause-sorted
+sort_below-returns-then-half-2-clause-sorted g t c = λ h can.
     let es = map g.E.Entry.item c.args.entries.now in
     let q = c.requires in
-    let half = c.halves-halves in
+    let into = c.half_of-half in
+    let low = into.result.is_low in
     let k = c.links_at-links in
+    let next = c.if-half.next.number in
     let cell = cell_with c.args.left c.args.right c.args.top c.args.bottom in
     let above = c.args.above.number in
     let at = c.args.at.number in
-    let part = pass-low es cell above at h q.some can q.fork q.order half.result.low half.ensures.low k.result.left.number
-    k.ensures.left (sides_of c.size_at.result) c.size_at.ensures.sides (c.is_below_ends.ensures.yes c.if-is_below_ends.true) in
+    let link : next ≡ link_in low (item_at es above) = elim c.if-half.branch [
+      | sort_below-then-half w ↦ ap (λ (n : Link). n.number) w.next-is ∙ k.ensures.left ∙ left-in (item_at es above) low w.if-half.true
+      | sort_below-else-half w ↦ ap (λ (n : Link). n.number) w.next-is ∙ k.ensures.right ∙ right-in (item_at es above) low w.if-half.false
+    ] in
+    let part = pass-half es cell above at h q.some can q.fork q.order low into.result.cell into.ensures.cell next link
+    (subst (λ (s : Sides). IsIn s into.result.cell) c.size_at.ensures.sides into.ensures.inside) in
     let sorts = c.sort_in-side in
     let fs = map g.E.Entry.item sorts.new.entries in
     let hs = map g.E.Entry.item c.relink.new.entries in
     let side = sorts.result.number in
-    let inside = pass-inside es cell above at q.sorted.0 q.some q.sorted.1 q.fork q.order in
-    let linked = linked-by fs hs above k.result.up.number side k.result.right.number (omega (arith, inside, sorts.ensures.areas.long))
+    let there = pass-inside es cell above at q.sorted.0 q.some q.sorted.1 q.fork q.order in
+    let linked = linked-by fs hs above k.result.up.number side k.result.right.number (omega (arith, there, sorts.ensures.areas.long))
     c.relink.ensures.links in
-    hung-low es cell above at h q.some can q.fork q.order fs side
-    (at-low es cell above at h q.some can q.fork q.order fs half.result.low half.ensures.low side (sorts.ensures.sorted _ part)) hs
+    hung-in-low es cell above at h q.some can q.fork q.order low c.if-half-2.true fs side
+    (at-half es cell above at h q.some can q.fork q.order low fs into.result.cell into.ensures.cell side (sorts.ensures.sorted _ part)) hs
     sorts.ensures.areas
     (linked-as fs hs above k.result.up.number side k.result.right.number (item_at es above).up side (item_at es above).right
     k.ensures.up refl k.ensures.right linked)
 
-pub sort_below-returns-else-is_fork_before-clause-areas : goal.sort_below-returns-else-is_fork_before-clause-areas
-sort_below-returns-else-is_fork_before-clause-areas g t c =
+pub sort_below-returns-then-half-2-clause-areas : goal.sort_below-returns-then-half-2-clause-areas
+sort_below-returns-then-half-2-clause-areas g t c =
     let es = map g.E.Entry.item c.args.entries.now in
     let q = c.requires in
-    let half = c.halves-halves in
     let k = c.links_at-links in
     let cell = cell_with c.args.left c.args.right c.args.top c.args.bottom in
     let above = c.args.above.number in
@@ -257,144 +304,56 @@ sort_below-returns-else-is_fork_before-clause-areas g t c =
     let fs = map g.E.Entry.item sorts.new.entries in
     let hs = map g.E.Entry.item c.relink.new.entries in
     let side = sorts.result.number in
-    let inside = pass-inside es cell above at q.sorted.0 q.some q.sorted.1 q.fork q.order in
-    let linked = linked-by fs hs above k.result.up.number side k.result.right.number (omega (arith, inside, sorts.ensures.areas.long))
+    let there = pass-inside es cell above at q.sorted.0 q.some q.sorted.1 q.fork q.order in
+    let linked = linked-by fs hs above k.result.up.number side k.result.right.number (omega (arith, there, sorts.ensures.areas.long))
     c.relink.ensures.links in
     plain-then es fs hs sorts.ensures.areas
     (plain-areas fs hs (linked-areas fs hs above k.result.up.number side k.result.right.number linked))
 
-pub sort_below-is_fork_before-requires-else-is_below_ends-clause-top :
-    goal.sort_below-is_fork_before-requires-else-is_below_ends-clause-top
-sort_below-is_fork_before-requires-else-is_below_ends-clause-top g t c = λ there.
+pub sort_below-returns-else-half-2-clause-sorted : goal.sort_below-returns-else-half-2-clause-sorted
+sort_below-returns-else-half-2-clause-sorted g t c = λ h can.
     let es = map g.E.Entry.item c.args.entries.now in
     let q = c.requires in
-    let half = c.halves-halves in
+    let into = c.half_of-half in
+    let low = into.result.is_low in
     let k = c.links_at-links in
+    let next = c.if-half.next.number in
     let cell = cell_with c.args.left c.args.right c.args.top c.args.bottom in
     let above = c.args.above.number in
     let at = c.args.at.number in
-    let part = pass-high es cell above at q.sorted.0 q.some q.sorted.1 q.fork q.order half.result.low half.result.high half.ensures.low
-    half.ensures.high k.result.right.number k.ensures.right (sides_of c.size_at.result) c.size_at.ensures.sides
-    (c.is_below_ends.ensures.no c.if-is_below_ends.false) in
-    omega (
-      arith,
-      length-map c.args.entries.now g.E.Entry.item,
-      sort-inside es es half.result.high k.result.right.number at _ part there,
-    )
-
-pub sort_below-is_fork_before-requires-else-is_below_ends-clause-top_solid :
-    goal.sort_below-is_fork_before-requires-else-is_below_ends-clause-top_solid
-sort_below-is_fork_before-requires-else-is_below_ends-clause-top_solid g t c = λ there.
-    let es = map g.E.Entry.item c.args.entries.now in
-    let q = c.requires in
-    let half = c.halves-halves in
-    let k = c.links_at-links in
-    let cell = cell_with c.args.left c.args.right c.args.top c.args.bottom in
-    let above = c.args.above.number in
-    let at = c.args.at.number in
-    let part = pass-high es cell above at q.sorted.0 q.some q.sorted.1 q.fork q.order half.result.low half.result.high half.ensures.low
-    half.ensures.high k.result.right.number k.ensures.right (sides_of c.size_at.result) c.size_at.ensures.sides
-    (c.is_below_ends.ensures.no c.if-is_below_ends.false) in
-    sort-solid es es half.result.high k.result.right.number at _ part there
-
-pub sort_below-sort_below-requires-then-is_fork_before-2 : goal.sort_below-sort_below-requires-then-is_fork_before-2
-sort_below-sort_below-requires-then-is_fork_before-2 g t c κs within =
-    let es = map g.E.Entry.item c.args.entries.now in
-    let q = c.requires in
-    let half = c.halves-halves in
-    let k = c.links_at-links in
-    let cell = cell_with c.args.left c.args.right c.args.top c.args.bottom in
-    let above = c.args.above.number in
-    let at = c.args.at.number in
-    let part = pass-high es cell above at q.sorted.0 q.some q.sorted.1 q.fork q.order half.result.low half.result.high half.ensures.low
-    half.ensures.high k.result.right.number k.ensures.right (sides_of c.size_at.result) c.size_at.ensures.sides
-    (c.is_below_ends.ensures.no c.if-is_below_ends.false) in
-    let is = c.is_fork_before-else-is_below_ends.ensures in
-    let yes = c.if-is_fork_before-2.true in
-    let split = pass-split es cell above at q.sorted.0 q.some q.sorted.1 q.fork q.order in (
-      omega (arith, c.decreases, ap breadth half.ensures.high, high-less cell q.sorted.1.cell split),
-      (within, (is.some yes, (is.fork yes, (is.order yes, (_, part))))),
-    )
-
-pub sort_below-returns-then-is_fork_before-2-clause-sorted : goal.sort_below-returns-then-is_fork_before-2-clause-sorted
-sort_below-returns-then-is_fork_before-2-clause-sorted g t c = λ h can.
-    let es = map g.E.Entry.item c.args.entries.now in
-    let q = c.requires in
-    let half = c.halves-halves in
-    let k = c.links_at-links in
-    let cell = cell_with c.args.left c.args.right c.args.top c.args.bottom in
-    let above = c.args.above.number in
-    let at = c.args.at.number in
-    let part = pass-high es cell above at h q.some can q.fork q.order half.result.low half.result.high half.ensures.low
-    half.ensures.high k.result.right.number k.ensures.right (sides_of c.size_at.result) c.size_at.ensures.sides
-    (c.is_below_ends.ensures.no c.if-is_below_ends.false) in
-    let below = c.sort_below-then-is_fork_before-2 in
-    let fs = map g.E.Entry.item below.new.entries in
-    stayed-high es cell above at h q.some can q.fork q.order fs k.result.right.number
-    (from-high es cell above at h q.some can q.fork q.order fs half.result.high half.ensures.high k.result.right.number k.ensures.right
-    (c.is_fork_before-else-is_below_ends.ensures.some c.if-is_fork_before-2.true) (below.ensures.sorted _ part))
-    below.ensures.areas k.ensures.right
-
-pub sort_below-sort_in-side-requires-else-is_below_ends : goal.sort_below-sort_in-side-requires-else-is_below_ends
-sort_below-sort_in-side-requires-else-is_below_ends g t c κs within =
-    let es = map g.E.Entry.item c.args.entries.now in
-    let q = c.requires in
-    let half = c.halves-halves in
-    let k = c.links_at-links in
-    let cell = cell_with c.args.left c.args.right c.args.top c.args.bottom in
-    let above = c.args.above.number in
-    let at = c.args.at.number in
-    let part = pass-high es cell above at q.sorted.0 q.some q.sorted.1 q.fork q.order half.result.low half.result.high half.ensures.low
-    half.ensures.high k.result.right.number k.ensures.right (sides_of c.size_at.result) c.size_at.ensures.sides
-    (c.is_below_ends.ensures.no c.if-is_below_ends.false) in
-    let split = pass-split es cell above at q.sorted.0 q.some q.sorted.1 q.fork q.order in (
-      omega (arith, c.decreases, ap breadth half.ensures.high, high-less cell q.sorted.1.cell split),
-      (
-        within,
-        (high-up es cell above at q.sorted.0 q.some q.sorted.1 q.fork q.order k.result.right.number k.ensures.right, (_, part)),
-      ),
-    )
-
-pub sort_below-returns-else-is_fork_before-2-clause-sorted : goal.sort_below-returns-else-is_fork_before-2-clause-sorted
-sort_below-returns-else-is_fork_before-2-clause-sorted g t c = λ h can.
-    let es = map g.E.Entry.item c.args.entries.now in
-    let q = c.requires in
-    let half = c.halves-halves in
-    let k = c.links_at-links in
-    let cell = cell_with c.args.left c.args.right c.args.top c.args.bottom in
-    let above = c.args.above.number in
-    let at = c.args.at.number in
-    let part = pass-high es cell above at h q.some can q.fork q.order half.result.low half.result.high half.ensures.low
-    half.ensures.high k.result.right.number k.ensures.right (sides_of c.size_at.result) c.size_at.ensures.sides
-    (c.is_below_ends.ensures.no c.if-is_below_ends.false) in
-    let sorts = c.sort_in-side-else-is_below_ends in
+    let link : next ≡ link_in low (item_at es above) = elim c.if-half.branch [
+      | sort_below-then-half w ↦ ap (λ (n : Link). n.number) w.next-is ∙ k.ensures.left ∙ left-in (item_at es above) low w.if-half.true
+      | sort_below-else-half w ↦ ap (λ (n : Link). n.number) w.next-is ∙ k.ensures.right ∙ right-in (item_at es above) low w.if-half.false
+    ] in
+    let part = pass-half es cell above at h q.some can q.fork q.order low into.result.cell into.ensures.cell next link
+    (subst (λ (s : Sides). IsIn s into.result.cell) c.size_at.ensures.sides into.ensures.inside) in
+    let sorts = c.sort_in-side in
     let fs = map g.E.Entry.item sorts.new.entries in
-    let hs = map g.E.Entry.item c.relink-else-is_below_ends.new.entries in
+    let hs = map g.E.Entry.item c.relink-else-half-2.new.entries in
     let side = sorts.result.number in
-    let inside = pass-inside es cell above at q.sorted.0 q.some q.sorted.1 q.fork q.order in
-    let linked = linked-by fs hs above k.result.up.number k.result.left.number side (omega (arith, inside, sorts.ensures.areas.long))
-    c.relink-else-is_below_ends.ensures.links in
-    hung-high es cell above at h q.some can q.fork q.order fs side
-    (at-high es cell above at h q.some can q.fork q.order fs half.result.high half.ensures.high side (sorts.ensures.sorted _ part)) hs
+    let there = pass-inside es cell above at q.sorted.0 q.some q.sorted.1 q.fork q.order in
+    let linked = linked-by fs hs above k.result.up.number k.result.left.number side (omega (arith, there, sorts.ensures.areas.long))
+    c.relink-else-half-2.ensures.links in
+    hung-in-high es cell above at h q.some can q.fork q.order low c.if-half-2.false fs side
+    (at-half es cell above at h q.some can q.fork q.order low fs into.result.cell into.ensures.cell side (sorts.ensures.sorted _ part)) hs
     sorts.ensures.areas
     (linked-as fs hs above k.result.up.number k.result.left.number side (item_at es above).up (item_at es above).left side
     k.ensures.up k.ensures.left refl linked)
 
-pub sort_below-returns-else-is_fork_before-2-clause-areas : goal.sort_below-returns-else-is_fork_before-2-clause-areas
-sort_below-returns-else-is_fork_before-2-clause-areas g t c =
+pub sort_below-returns-else-half-2-clause-areas : goal.sort_below-returns-else-half-2-clause-areas
+sort_below-returns-else-half-2-clause-areas g t c =
     let es = map g.E.Entry.item c.args.entries.now in
     let q = c.requires in
-    let half = c.halves-halves in
     let k = c.links_at-links in
     let cell = cell_with c.args.left c.args.right c.args.top c.args.bottom in
     let above = c.args.above.number in
     let at = c.args.at.number in
-    let sorts = c.sort_in-side-else-is_below_ends in
+    let sorts = c.sort_in-side in
     let fs = map g.E.Entry.item sorts.new.entries in
-    let hs = map g.E.Entry.item c.relink-else-is_below_ends.new.entries in
+    let hs = map g.E.Entry.item c.relink-else-half-2.new.entries in
     let side = sorts.result.number in
-    let inside = pass-inside es cell above at q.sorted.0 q.some q.sorted.1 q.fork q.order in
-    let linked = linked-by fs hs above k.result.up.number k.result.left.number side (omega (arith, inside, sorts.ensures.areas.long))
-    c.relink-else-is_below_ends.ensures.links in
+    let there = pass-inside es cell above at q.sorted.0 q.some q.sorted.1 q.fork q.order in
+    let linked = linked-by fs hs above k.result.up.number k.result.left.number side (omega (arith, there, sorts.ensures.areas.long))
+    c.relink-else-half-2.ensures.links in
     plain-then es fs hs sorts.ensures.areas
     (plain-areas fs hs (linked-areas fs hs above k.result.up.number k.result.left.number side linked))
