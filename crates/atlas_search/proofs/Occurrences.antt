@@ -29,9 +29,6 @@ pub front-without : (i : ℕ) (xs : List ℕ) → (front xs ≡ i → ⊥) → f
 front-without i [] ne = refl
 front-without i (x ∷ xs) ne = rw (cond-false (eqb i x) xs (x ∷ without i xs) (ne_eqb i x (λ q. ne (sym q)))) refl
 
-pub without-other : (i x : ℕ) (xs : List ℕ) → (i ≡ x → ⊥) → without i (x ∷ xs) ≡ x ∷ without i xs
-without-other i x xs e = cond-false (eqb i x) xs (x ∷ without i xs) (ne_eqb i x e)
-
 -- A list in which a slot does not stand is the same without it.
 pub without-none : (i : ℕ) (xs : List ℕ) → occurs i xs ≡ 0 → without i xs ≡ xs
 without-none i [] z = refl

@@ -1,9 +1,11 @@
 -- The best free box that a search was shown: what it keeps of it. No public clause cites this module.
-use Rattle.std.specs.Prelude.{◌≡◌, ℕ, ◌<◌, ◌⊎◌, ◌++◌, ◌∷◌, [], Bool, List}
+use Rattle.std.specs.Prelude.{◌≡◌, ℕ, ◌<◌, ◌⊎◌, ◌++◌, ◌∷◌, [], Bool, List, Contains}
 use Rattle.atlas_search.specs.declared.best.Best.{Best}
-use Rattle.atlas_model.specs.Boxes.{Box, Sides, IsPositive}
+use Rattle.atlas_search.specs.declared.cells.Cell.{Cell}
+use Rattle.atlas_model.specs.Boxes.{Box, Sides, IsPositive, box_sides}
 use Rattle.atlas_model.specs.Choice.{least_margin}
 use Rattle.atlas_model.specs.Pixels.{size_of}
+use Rattle.atlas_search.specs.Forks.{IsIn}
 use Rattle.atlas_search.specs.Ranks.{corner_of, rank_of, no_rank}
 use Rattle.atlas_search.specs.Searches.{Shown, shown_at, IsBestShown, FitsNone}
 
@@ -43,3 +45,9 @@ abbrev pub BecomesBest : Best → Box → (rank corner : ℕ) → Type 0
 BecomesBest s b rank corner =
     (is_large : Bool) (r : Sides) (shown : List Shown) → HasSeen s is_large r shown → (at : ℕ)
     → (rank < no_rank) × IsKeptOf is_large r (shown ++ shown_at b at ∷ []) rank corner at
+
+-- Boxes of sizes in this cell are no better than the best.
+abbrev pub IsOut : Best → Cell → Type 0
+IsOut s cell =
+    (is_large : Bool) (r : Sides) (shown more : List Shown) → HasSeen s is_large r shown
+    → ((c : Shown) → Contains more c → IsIn (box_sides c.box) cell) → HasSeen s is_large r (shown ++ more)

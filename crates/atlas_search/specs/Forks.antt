@@ -75,6 +75,10 @@ low c = low_by (is_cut_wide c) c
 abbrev pub high : Cell → Cell
 high c = high_by (is_cut_wide c) c
 
+-- These are the halves of a cell.
+abbrev pub HasHalves : (c l h : Cell) → Type 0
+HasHalves c l h = (l ≡ low c) × (h ≡ high c)
+
 -- The low half, or the high one.
 abbrev pub half : Bool → Cell → Cell
 half true c = low c

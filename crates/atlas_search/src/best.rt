@@ -118,7 +118,7 @@ pub fn corner(rectangle: Rectangle) -> u64
 }
 
 impl Best {
-    ghost use Rattle.atlas_search.specs.Bests.{HasSeen, IsAhead, IsFarther, IsPassed, BecomesBest};
+    ghost use Rattle.atlas_search.specs.Bests.{HasSeen, IsAhead, IsFarther, IsOut, IsPassed, BecomesBest};
     ghost use Rattle.atlas_search.specs.Forks.{IsIn};
     ghost use Rattle.atlas_search.specs.Searches.{Shown, shown_at};
 
@@ -246,23 +246,27 @@ impl Best {
         self.reach <= 1 && self.corner <= corner
     }
 
-    /// Whether the request may fit a box of a size in this cell: both of its sides are before the ends.
+    /// Whether the request may fit a box of a size in this cell, by the widths there alone, or by the heights.
+    #[inline(always)]
+    pub fn may_fit_by(&self, cell: Cell, is_wide: bool) -> bool
+        ensures { result ≡ false → IsOut self.now cell }
+    {
+        cell.is_before_end(self.size, is_wide)
+    }
+
+    /// Whether the request may fit a box of a size in this cell.
     #[inline(always)]
     pub fn may_fit_in(&self, cell: Cell) -> bool
-        ensures { result ≡ false → (is_large : Bool) (r : Sides) (shown more : List Shown) → HasSeen self.now is_large r shown
-            → ((c : Shown) → Contains more c → IsIn (box_sides c.box) cell)
-            → HasSeen self.now is_large r (shown ++ more) }
+        ensures { result ≡ false → IsOut self.now cell }
     {
-        cell.is_below_ends(self.size)
+        self.may_fit_by(cell, true) && self.may_fit_by(cell, false)
     }
 
     /// Whether a box of a size in this cell may leave no more over than the best does, or anything where the request is large and the best
     /// has no equal side.
     #[inline(always)]
     pub fn may_gain_in(&self, cell: Cell) -> bool
-        ensures { result ≡ false → (is_large : Bool) (r : Sides) (shown more : List Shown) → HasSeen self.now is_large r shown
-            → ((c : Shown) → Contains more c → IsIn (box_sides c.box) cell)
-            → HasSeen self.now is_large r (shown ++ more) }
+        ensures { result ≡ false → IsOut self.now cell }
     {
         !cell.is_beyond(self.size, self.reach)
     }

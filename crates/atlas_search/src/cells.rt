@@ -2,7 +2,7 @@
 ghost use Rattle.std.specs.Prelude.{◌≡◌, ◌+◌, ◌*◌, ◌/◌, ◌<◌, ◌≤◌, ◌⊎◌, true, false};
 ghost use Rattle.atlas_model.specs.Boxes.{IsPositive};
 ghost use Rattle.atlas_model.specs.Pixels.{sides_of};
-ghost use Rattle.atlas_search.specs.Forks.{IsCell, IsIn, cell_of, end_of, first_of, half, high, is_cut_wide, low, middle};
+ghost use Rattle.atlas_search.specs.Forks.{IsCell, IsIn, cell_of, end_of, first_of, half, high_by, is_cut_wide, low_by, middle};
 
 use atlas_model::Size;
 
@@ -101,14 +101,17 @@ impl Cell {
         }
     }
 
-    /// Whether both sides of a size are before the ends.
+    /// Whether a size is before the end of the widths, or before that of the heights.
     #[inline(always)]
-    pub fn is_below_ends(self, size: Size) -> bool
+    pub fn is_before_end(self, size: Size, is_wide: bool) -> bool
         requires { IsPositive (sides_of size) }
-        ensures yes { result ≡ true → ((sides_of size).width < self.right) × ((sides_of size).height < self.bottom) }
-        ensures no { result ≡ false → (self.right ≤ (sides_of size).width) ⊎ (self.bottom ≤ (sides_of size).height) }
+        ensures { result ≡ false → (self.right ≤ (sides_of size).width) ⊎ (self.bottom ≤ (sides_of size).height) }
     {
-        (size.width as u32) < self.right && (size.height as u32) < self.bottom
+        if is_wide {
+            (size.width as u32) < self.right
+        } else {
+            (size.height as u32) < self.bottom
+        }
     }
 
     /// Whether both sides of a size, and so much more, are before the first ones.
@@ -122,9 +125,9 @@ impl Cell {
         width < self.left as u64 && height < self.top as u64
     }
 
-    // Whether it is divided by width.
+    /// Whether it is divided by width.
     #[inline(always)]
-    fn is_cut_wide(self) -> bool
+    pub fn is_cut_wide(self) -> bool
         requires { IsCell self }
         ensures wide { result ≡ true → is_cut_wide self ≡ true }
         ensures tall { result ≡ false → is_cut_wide self ≡ false }
@@ -138,14 +141,14 @@ impl Cell {
         }
     }
 
-    /// The halves of a cell of more than one size.
+    /// The halves of a cell that is divided by width, or by height.
     #[inline(always)]
-    pub fn halves(self) -> Halves
+    pub fn halves(self, is_wide: bool) -> Halves
         requires { IsCell self }
-        ensures low { result.low ≡ low self }
-        ensures high { result.high ≡ high self }
+        ensures low { result.low ≡ low_by is_wide self }
+        ensures high { result.high ≡ high_by is_wide self }
     {
-        if self.is_cut_wide() {
+        if is_wide {
             let at = middle(self.left, self.right);
             Halves {
                 low: Cell { right: at, ..self },

@@ -1,5 +1,5 @@
 -- An entry takes the place of a fork that doesn't come before it, and that one goes on below it.
-use Rattle.std.proofs.Common.{◌≡◌, ◌≢◌, ℕ, ◌+◌, ◌<◌, ◌≤◌, ◌⊎◌, true, List, length, refl, ap, sym, ◌∙◌, subst, inr, arith}
+use Rattle.std.proofs.Common.{◌≡◌, ◌≢◌, ℕ, ◌+◌, ◌<◌, ◌≤◌, true, List, length, refl, ap, sym, ◌∙◌, subst, inr, arith}
 use Rattle.std.proofs.lemmas.Bool.{true≢false}
 use Rattle.atlas_search.specs.declared.cells.Cell.{Cell}
 use Rattle.atlas_model.specs.Boxes.{Box, Sides}

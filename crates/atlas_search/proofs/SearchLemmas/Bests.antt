@@ -1,5 +1,5 @@
 -- The best of the boxes that a search was shown.
-use Rattle.std.proofs.Common.{◌≡◌, ℕ, ◌-◌, ◌/◌, ◌<◌, ◌≤◌, ◌⊎◌, min, append_assoc, not, Bool, true, false, List, [], ◌∷◌, ◌++◌, ℤ, pos}
+use Rattle.std.proofs.Common.{◌≡◌, ℕ, ◌-◌, ◌<◌, ◌≤◌, ◌⊎◌, min, append_assoc, not, Bool, true, false, List, [], ◌∷◌, ◌++◌, ℤ, pos}
 use Rattle.std.proofs.Common.{◌<ℤ◌, ◌≤ℤ◌, ◌↔◌, negsuc, FitsSigned, w32, refl, ap, sym, ◌∙◌, subst, inl, inr, arith}
 use Rattle.std.specs.List.{Contains}
 use Rattle.std.proofs.lemmas.Int.{ints}
@@ -50,10 +50,6 @@ natural-most (pos n) h = omega (arith, ints)
 natural-most (negsuc n) h = omega arith
 
 -- The order of corners is that of the boxes.
-
-corner-row : (b : Box) → b.min.x < 4294967296 → corner_of b / 4294967296 ≡ b.min.y
-corner-row b h = omega (arith, h)
-
 corner-before : (b c : Box) → b.min.x < 4294967296 → c.min.x < 4294967296 → corner_of b < corner_of c →
     IsBefore (rectangle_of b).min (rectangle_of c).min
 corner-before b c hb hc h = grind (arith, ints)

@@ -1,9 +1,10 @@
 -- Cells and their halves.
-use Rattle.std.proofs.Common.{◌≡◌, ◌≢◌, ℕ, ◌+◌, ◌-◌, ◌*◌, ◌/◌, ◌<◌, ◌≤◌, ◌⊎◌, Bool, true, false, refl, inl, inr, arith}
+use Rattle.std.proofs.Common.{◌≡◌, ◌≢◌, ℕ, ◌+◌, ◌-◌, ◌*◌, ◌/◌, ◌<◌, ◌≤◌, ◌⊎◌, Bool, true, false, refl, ap, sym, ◌∙◌, arith}
 use Rattle.std.proofs.lemmas.Bool.{eqb-true, eqb-false, ltb-true, ltb-false}
 use Rattle.atlas_search.specs.declared.cells.Cell.{Cell}
 use Rattle.atlas_model.specs.Boxes.{Sides, IsPositive}
-use Rattle.atlas_search.specs.Forks.{IsCell, IsIn, IsSplit, cell_of, end_of, first_of, half, high, high_by, is_cut_wide, low, low_by, middle}
+use Rattle.atlas_search.specs.Forks.{HasHalves, IsCell, IsIn, IsSplit, cell_of, end_of, first_of, half, high, high_by, is_cut_wide}
+use Rattle.atlas_search.specs.Forks.{low, low_by, middle}
 
 -- How many sides a cell has.
 abbrev pub breadth : Cell → ℕ
@@ -147,6 +148,14 @@ low-within c s is h = low-is_within (is_cut_wide c) c s is h
 
 pub high-within : (c : Cell) (s : Sides) → IsIn s (high c) → IsIn s c
 high-within c s h = high-is_within (is_cut_wide c) c s h
+
+-- What is divided by width, or by height, as the cell is.
+pub by-cut : (c : Cell) (b : Bool) → (b ≡ true → is_cut_wide c ≡ true) → (b ≡ false → is_cut_wide c ≡ false) → b ≡ is_cut_wide c
+by-cut c true wide tall = sym (wide refl)
+by-cut c false wide tall = sym (tall refl)
+
+pub halves-of : (c : Cell) (b : Bool) (l h : Cell) → b ≡ is_cut_wide c → l ≡ low_by b c → h ≡ high_by b c → HasHalves c l h
+halves-of c b l h is low high = (low ∙ ap (λ k. low_by k c) is, high ∙ ap (λ k. high_by k c) is)
 
 -- A half has fewer sides.
 pub half-less : (b : Bool) (c : Cell) → IsCell c → IsSplit c → breadth (half b c) < breadth c

@@ -139,14 +139,3 @@ reroutes-top es fs at left right l r area fork a b =
         ]
       ];
     }
-
--- A heap whose top is no fork is at home in the whole of a cell as in a half of it.
-pub wider-low : (es : List Item) (c : Cell) (at : ℕ) (left right : Heap) → IsCell c → (item_at es at).is_fork ≡ false
-    → IsRouted es (low c) (Top at left right) → IsRouted es c (Top at left right)
-wider-low es c at left right is isn r =
-    (low-within c (item_sides (item_at es at)) is r.0, λ isf. absurd (true≢false (sym isf ∙ isn)), r.2)
-
-pub wider-high : (es : List Item) (c : Cell) (at : ℕ) (left right : Heap) → (item_at es at).is_fork ≡ false
-    → IsRouted es (high c) (Top at left right) → IsRouted es c (Top at left right)
-wider-high es c at left right isn r =
-    (high-within c (item_sides (item_at es at)) r.0, λ isf. absurd (true≢false (sym isf ∙ isn)), r.2)

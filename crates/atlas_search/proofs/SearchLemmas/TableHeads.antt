@@ -1,8 +1,7 @@
 -- A table after one of its heads is written.
-use Rattle.std.proofs.Common.{◌≡◌, ◌≢◌, ℕ, ◌+◌, ◌*◌, ◌/◌, ◌%◌, ◌<◌, ◌≤◌, ◌⊎◌, inl, inr, Bool, true, false, not, ◌||◌, ◌==◌, List, ◌++◌}
-use Rattle.std.proofs.Common.{length, take, get_or, slice_set, replicate, refl, ap, sym, ◌∙◌, subst, arith}
+use Rattle.std.proofs.Common.{◌≡◌, ◌≢◌, ℕ, ◌+◌, ◌*◌, ◌/◌, ◌%◌, ◌<◌, ◌≤◌, ◌⊎◌, inl, inr, Bool, true, false, not, ◌||◌, ◌==◌, List}
+use Rattle.std.proofs.Common.{length, get_or, slice_set, replicate, refl, ap, sym, ◌∙◌, arith}
 use Rattle.std.proofs.lemmas.List.{get_or-set_same, get_or-set_other, get_or-replicate, get_or_read, length-set, length-replicate}
-use Rattle.std.proofs.Math.Seq.{take-append_seam}
 use Rattle.std.proofs.Math.ListN.{get_or-eq_default}
 use Rattle.std.proofs.lemmas.Bool.{cases_eq, cases_lt, ne_eqb, eq-eqb, or_from, or_left, or_right}
 use Rattle.atlas_search.specs.declared.masks.Mask.{Mask}
@@ -185,11 +184,3 @@ empty-table heads rows long empty none = record {
 pub blank-table : (rows : List Mask) → ((i j : ℕ) → is_marked_at rows i j ≡ false)
     → IsTable (replicate 2704 no_link) rows 2704
 blank-table rows none = empty-table (replicate 2704 no_link) rows (length-replicate 2704 no_link) used-blank none
-
--- Heads of empty lists that are written over others.
-pub blanked-table : (heads rest : List Link) (rows : List Mask) (n : ℕ) → n ≡ 2704 → length heads ≡ 2704
-    → ((k : ℕ) → is_used_at heads k ≡ false) → ((i j : ℕ) → is_marked_at rows i j ≡ false)
-    → IsTable (take n (heads ++ rest)) rows 2704
-blanked-table heads rest rows n is long empty none =
-    let whole : take n (heads ++ rest) ≡ heads = ap (λ m. take m (heads ++ rest)) (is ∙ sym long) ∙ take-append_seam heads rest in
-    subst (λ (hs : List Link). IsTable hs rows 2704) (sym whole) (empty-table heads rows long empty none)

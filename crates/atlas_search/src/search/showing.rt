@@ -1,7 +1,8 @@
 //! A list of entries shown to a search: its heap from the top on, but for what can't be the best.
 ghost use Rattle.std.specs.Prelude.{◌≡◌, ◌+◌, ◌<◌, ◌++◌, ◌∷◌, ℕ, true, false, [], map, List};
 ghost use Rattle.atlas_model.specs.Boxes.{Sides};
-ghost use Rattle.atlas_search.specs.Forks.{IsRouted};
+ghost use Rattle.atlas_search.specs.Bests.{IsOut};
+ghost use Rattle.atlas_search.specs.Forks.{HasHalves, IsRouted};
 ghost use Rattle.atlas_search.specs.Heaps.{Heap, IsHeap, members};
 ghost use Rattle.atlas_search.specs.Heaps.Heap.{Top};
 ghost use Rattle.atlas_search.specs.Items.{Item, item_at};
@@ -11,7 +12,7 @@ ghost use Rattle.atlas_search.specs.Showing.{IsForkShowable, IsListShowable, IsS
 ghost use Rattle.atlas_search.specs.declared.cells.Cell.{Cell};
 
 use crate::best::{Best, corner};
-use crate::cells::Cell;
+use crate::cells::{Cell, Halves};
 use crate::cut::exact_size;
 use crate::link::Link;
 use crate::search::Entry;
@@ -38,17 +39,19 @@ pub(crate) fn show_entry<E: Entry>(entry: &E, at: Link, best: &mut Best) -> bool
     entry.is_fork()
 }
 
-// Shows what hangs below a fork of sizes of a cell to a search, but for what can't be the best: of the halves only those are entered that
-// may have a better one.
+// Shows what hangs below a fork, by the halves of its cell, to a search, but for what can't be the best: of the halves only those are
+// entered that may have a better one; of the low one it is given whether the request may fit a box.
 #[cycle(show)]
 #[inline(always)]
-fn show_halves<E: Entry>(entries: &[E], fork: &E, cell: Cell, best: &mut Best)
-    requires { (at : ℕ) × (l : Heap) × (r : Heap) × IsForkShowable (map E.item entries.now) cell (E.item fork.now) at l r }
-    ensures { (at : ℕ) (l r : Heap) → IsForkShowable (map E.item entries.now) cell (E.item fork.now) at l r
+fn show_halves<E: Entry>(entries: &[E], fork: &E, halves: Halves, may_fit: bool, best: &mut Best)
+    requires fork { (cell : Cell) × (at : ℕ) × (l : Heap) × (r : Heap) × HasHalves cell halves.low halves.high
+        × IsForkShowable (map E.item entries.now) cell (E.item fork.now) at l r }
+    requires out { may_fit ≡ false → IsOut best.old halves.low }
+    ensures { (cell : Cell) (at : ℕ) (l r : Heap) → HasHalves cell halves.low halves.high
+        → IsForkShowable (map E.item entries.now) cell (E.item fork.now) at l r
         → HasShown (map E.item entries.now) (members l ++ members r) best.old best.new }
 {
-    let halves = cell.halves();
-    if best.may_fit_in(halves.low) {
+    if may_fit {
         show_within(entries, fork.left(), halves.low, best);
     }
     if best.may_gain_in(halves.high) {
@@ -80,7 +83,15 @@ fn show_below<E: Entry>(
         top,
         bottom,
     };
-    show_halves(entries, fork, cell, best);
+    if cell.is_cut_wide() {
+        let halves = cell.halves(true);
+        let may_fit = best.may_fit_by(halves.low, true);
+        show_halves(entries, fork, halves, may_fit, best);
+    } else {
+        let halves = cell.halves(false);
+        let may_fit = best.may_fit_by(halves.low, false);
+        show_halves(entries, fork, halves, may_fit, best);
+    }
 }
 
 // Shows the entries of a heap with this top and of sizes of a cell to a search, but for those that can't be the best.
@@ -121,7 +132,9 @@ pub(crate) fn show_list<E: Entry>(entries: &[E], top: Link, best: &mut Best)
     let entry = &entries[top.number as usize];
     if show_entry(entry, top, best) {
         let cell = Cell::around(exact_size(entry.rectangle()));
-        show_halves(entries, entry, cell, best);
+        let halves = cell.halves(cell.is_cut_wide());
+        let may_fit = best.may_fit_in(halves.low);
+        show_halves(entries, entry, halves, may_fit, best);
     }
 }
 
@@ -148,6 +161,8 @@ pub(crate) fn show_larger<E: Entry>(entries: &[E], top: Link, best: &mut Best)
         if best.ends_in(cell, corner) {
             return;
         }
-        show_halves(entries, entry, cell, best);
+        let halves = cell.halves(cell.is_cut_wide());
+        let may_fit = best.may_fit_in(halves.low);
+        show_halves(entries, entry, halves, may_fit, best);
     }
 }

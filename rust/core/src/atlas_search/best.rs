@@ -197,11 +197,18 @@ impl Best {
         self.reach <= 1 && self.corner <= corner
     }
 
-    /// Whether the request may fit a box of a size in this cell: both of its sides are before the ends.
+    /// Whether the request may fit a box of a size in this cell, by the widths there alone, or by the heights.
+    #[inline(always)]
+    #[must_use]
+    pub fn may_fit_by(&self, cell: Cell, is_wide: bool) -> bool {
+        cell.is_before_end(self.size, is_wide)
+    }
+
+    /// Whether the request may fit a box of a size in this cell.
     #[inline(always)]
     #[must_use]
     pub fn may_fit_in(&self, cell: Cell) -> bool {
-        cell.is_below_ends(self.size)
+        self.may_fit_by(cell, true) && self.may_fit_by(cell, false)
     }
 
     /// Whether a box of a size in this cell may leave no more over than the best does, or anything where the request is large and the best

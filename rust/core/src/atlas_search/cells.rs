@@ -19,6 +19,13 @@ pub struct Halves {
     pub high: Cell,
 }
 
+/// One of the halves of a cell, and which one it is.
+#[derive(Clone, Copy)]
+pub struct Half {
+    pub is_low: bool,
+    pub cell: Cell,
+}
+
 // The sides of one step: from one on, and before another.
 #[derive(Clone, Copy)]
 struct Step {
@@ -79,11 +86,15 @@ impl Cell {
         }
     }
 
-    /// Whether both sides of a size are before the ends.
+    /// Whether a size is before the end of the widths, or before that of the heights.
     #[inline(always)]
     #[must_use]
-    pub fn is_below_ends(self, size: Size) -> bool {
-        (size.width as u32) < self.right && (size.height as u32) < self.bottom
+    pub fn is_before_end(self, size: Size, is_wide: bool) -> bool {
+        if is_wide {
+            (size.width as u32) < self.right
+        } else {
+            (size.height as u32) < self.bottom
+        }
     }
 
     /// Whether both sides of a size, and so much more, are before the first ones.
@@ -95,9 +106,10 @@ impl Cell {
         width < self.left as u64 && height < self.top as u64
     }
 
-    // Whether it is divided by width.
+    /// Whether it is divided by width.
     #[inline(always)]
-    fn is_cut_wide(self) -> bool {
+    #[must_use]
+    pub fn is_cut_wide(self) -> bool {
         let wide = self.right - self.left;
         let tall = self.bottom - self.top;
         if wide <= tall {
@@ -107,11 +119,11 @@ impl Cell {
         }
     }
 
-    /// The halves of a cell of more than one size.
+    /// The halves of a cell that is divided by width, or by height.
     #[inline(always)]
     #[must_use]
-    pub fn halves(self) -> Halves {
-        if self.is_cut_wide() {
+    pub fn halves(self, is_wide: bool) -> Halves {
+        if is_wide {
             let at = middle(self.left, self.right);
             Halves {
                 low: Cell { right: at, ..self },
@@ -122,6 +134,41 @@ impl Cell {
             Halves {
                 low: Cell { bottom: at, ..self },
                 high: Cell { top: at, ..self },
+            }
+        }
+    }
+
+    /// The half that a size of a cell of more than one size is in.
+    #[inline(always)]
+    #[must_use]
+    pub fn half_of(self, size: Size) -> Half {
+        let width = size.width as u32;
+        let height = size.height as u32;
+        if self.is_cut_wide() {
+            let at = middle(self.left, self.right);
+            if width < at {
+                Half {
+                    is_low: true,
+                    cell: Cell { right: at, ..self },
+                }
+            } else {
+                Half {
+                    is_low: false,
+                    cell: Cell { left: at, ..self },
+                }
+            }
+        } else {
+            let at = middle(self.top, self.bottom);
+            if height < at {
+                Half {
+                    is_low: true,
+                    cell: Cell { bottom: at, ..self },
+                }
+            } else {
+                Half {
+                    is_low: false,
+                    cell: Cell { top: at, ..self },
+                }
             }
         }
     }

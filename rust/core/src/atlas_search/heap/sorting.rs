@@ -19,7 +19,7 @@ fn make_fork<E: Linked>(entries: &mut [E], cell: Cell, top: Link) {
     let up = links_at(entries, top).up;
     let size = size_at(entries, top);
     let rest = close(entries, top, top);
-    if cell.halves().low.is_below_ends(size) {
+    if cell.half_of(size).is_low {
         put(entries, top, up, rest, none, true);
     } else {
         put(entries, top, up, none, rest, true);
@@ -57,16 +57,21 @@ fn sink<E: Linked>(
     };
     make_fork(entries, cell, below);
     let links = links_at(entries, below);
-    let halves = cell.halves();
-    if halves.low.is_below_ends(size_at(entries, below)) {
-        let low = halves.low;
+    let half = cell.half_of(size_at(entries, below));
+    if half.is_low {
         put(entries, at, up, below, links.right, true);
         move_below(entries, links.right, at);
         sink(
-            entries, at, links.left, below, low.left, low.right, low.top, low.bottom,
+            entries,
+            at,
+            links.left,
+            below,
+            half.cell.left,
+            half.cell.right,
+            half.cell.top,
+            half.cell.bottom,
         );
     } else {
-        let high = halves.high;
         put(entries, at, up, links.left, below, true);
         move_below(entries, links.left, at);
         sink(
@@ -74,10 +79,10 @@ fn sink<E: Linked>(
             at,
             links.right,
             below,
-            high.left,
-            high.right,
-            high.top,
-            high.bottom,
+            half.cell.left,
+            half.cell.right,
+            half.cell.top,
+            half.cell.bottom,
         );
     }
 }
@@ -157,32 +162,24 @@ pub(crate) fn sort_below<E: Linked>(
         bottom,
     };
     let links = links_at(entries, above);
-    let halves = cell.halves();
-    if halves.low.is_below_ends(size_at(entries, at)) {
-        let low = halves.low;
-        if is_fork_before(entries, links.left, at) {
-            sort_below(
-                entries, links.left, at, low.left, low.right, low.top, low.bottom,
-            );
-            return;
-        }
-        let side = sort_in(entries, low, above, links.left, at);
+    let half = cell.half_of(size_at(entries, at));
+    let next = if half.is_low { links.left } else { links.right };
+    if is_fork_before(entries, next, at) {
+        sort_below(
+            entries,
+            next,
+            at,
+            half.cell.left,
+            half.cell.right,
+            half.cell.top,
+            half.cell.bottom,
+        );
+        return;
+    }
+    let side = sort_in(entries, half.cell, above, next, at);
+    if half.is_low {
         relink(entries, above, links.up, side, links.right);
     } else {
-        let high = halves.high;
-        if is_fork_before(entries, links.right, at) {
-            sort_below(
-                entries,
-                links.right,
-                at,
-                high.left,
-                high.right,
-                high.top,
-                high.bottom,
-            );
-            return;
-        }
-        let side = sort_in(entries, high, above, links.right, at);
         relink(entries, above, links.up, links.left, side);
     }
 }

@@ -2,7 +2,7 @@
 //! A list of entries shown to a search: its heap from the top on, but for what can't be the best.
 
 use crate::atlas_search::best::{corner, Best};
-use crate::atlas_search::cells::Cell;
+use crate::atlas_search::cells::{Cell, Halves};
 use crate::atlas_search::cut::exact_size;
 use crate::atlas_search::link::Link;
 use crate::atlas_search::search::Entry;
@@ -22,12 +22,11 @@ pub(crate) fn show_entry<E: Entry>(entry: &E, at: Link, best: &mut Best) -> bool
     entry.is_fork()
 }
 
-// Shows what hangs below a fork of sizes of a cell to a search, but for what can't be the best: of the halves only those are entered that
-// may have a better one.
+// Shows what hangs below a fork, by the halves of its cell, to a search, but for what can't be the best: of the halves only those are
+// entered that may have a better one; of the low one it is given whether the request may fit a box.
 #[inline(always)]
-fn show_halves<E: Entry>(entries: &[E], fork: &E, cell: Cell, best: &mut Best) {
-    let halves = cell.halves();
-    if best.may_fit_in(halves.low) {
+fn show_halves<E: Entry>(entries: &[E], fork: &E, halves: Halves, may_fit: bool, best: &mut Best) {
+    if may_fit {
         show_within(entries, fork.left(), halves.low, best);
     }
     if best.may_gain_in(halves.high) {
@@ -52,7 +51,15 @@ fn show_below<E: Entry>(
         top,
         bottom,
     };
-    show_halves(entries, fork, cell, best);
+    if cell.is_cut_wide() {
+        let halves = cell.halves(true);
+        let may_fit = best.may_fit_by(halves.low, true);
+        show_halves(entries, fork, halves, may_fit, best);
+    } else {
+        let halves = cell.halves(false);
+        let may_fit = best.may_fit_by(halves.low, false);
+        show_halves(entries, fork, halves, may_fit, best);
+    }
 }
 
 // Shows the entries of a heap with this top and of sizes of a cell to a search, but for those that can't be the best.
@@ -84,7 +91,9 @@ pub(crate) fn show_list<E: Entry>(entries: &[E], top: Link, best: &mut Best) {
     let entry = &entries[top.number as usize];
     if show_entry(entry, top, best) {
         let cell = Cell::around(exact_size(entry.rectangle()));
-        show_halves(entries, entry, cell, best);
+        let halves = cell.halves(cell.is_cut_wide());
+        let may_fit = best.may_fit_in(halves.low);
+        show_halves(entries, entry, halves, may_fit, best);
     }
 }
 
@@ -106,6 +115,8 @@ pub(crate) fn show_larger<E: Entry>(entries: &[E], top: Link, best: &mut Best) {
         if best.ends_in(cell, corner) {
             return;
         }
-        show_halves(entries, entry, cell, best);
+        let halves = cell.halves(cell.is_cut_wide());
+        let may_fit = best.may_fit_in(halves.low);
+        show_halves(entries, entry, halves, may_fit, best);
     }
 }
