@@ -512,9 +512,10 @@ typedef struct Result_Filling_SheetError Result_Filling_SheetError;
 typedef struct atlas_sheet_Asking atlas_sheet_Asking;
 typedef struct ControlFlow_ErrResidual_SheetError_Asking ControlFlow_ErrResidual_SheetError_Asking;
 typedef struct Result_Asking_SheetError Result_Asking_SheetError;
+typedef struct atlas_search_Halves atlas_search_Halves;
 typedef struct tuple_u64_bool tuple_u64_bool;
 typedef struct atlas_search_Step atlas_search_Step;
-typedef struct atlas_search_Halves atlas_search_Halves;
+typedef struct atlas_search_Half atlas_search_Half;
 typedef struct Option_ref_Global Option_ref_Global;
 typedef struct std_collections_Found std_collections_Found;
 typedef struct Option_Found_2 Option_Found_2;
@@ -3609,6 +3610,12 @@ struct Result_Asking_SheetError {
     } is;
 };
 
+/* atlas_search::cells::Halves */
+struct atlas_search_Halves {
+    atlas_search_Cell low;
+    atlas_search_Cell high;
+};
+
 struct tuple_u64_bool {
     uint64_t field_0;
     bool field_1;
@@ -3620,10 +3627,10 @@ struct atlas_search_Step {
     uint32_t end;
 };
 
-/* atlas_search::cells::Halves */
-struct atlas_search_Halves {
-    atlas_search_Cell low;
-    atlas_search_Cell high;
+/* atlas_search::cells::Half */
+struct atlas_search_Half {
+    bool is_low;
+    atlas_search_Cell cell;
 };
 
 struct Option_ref_Global {
@@ -8178,6 +8185,13 @@ MAKER ControlFlow_ErrResidual_SheetError_Asking new_ControlFlow_ErrResidual_Shee
     return it;
 }
 
+MAKER atlas_search_Halves new_atlas_search_Halves(atlas_search_Cell low, atlas_search_Cell high) {
+    atlas_search_Halves it;
+    it.low = low;
+    it.high = high;
+    return it;
+}
+
 MAKER tuple_u64_bool new_tuple_u64_bool(uint64_t field_0, bool field_1) {
     tuple_u64_bool it;
     it.field_0 = field_0;
@@ -8192,10 +8206,10 @@ MAKER atlas_search_Step new_atlas_search_Step(uint32_t first, uint32_t end) {
     return it;
 }
 
-MAKER atlas_search_Halves new_atlas_search_Halves(atlas_search_Cell low, atlas_search_Cell high) {
-    atlas_search_Halves it;
-    it.low = low;
-    it.high = high;
+MAKER atlas_search_Half new_atlas_search_Half(bool is_low, atlas_search_Cell cell) {
+    atlas_search_Half it;
+    it.is_low = is_low;
+    it.cell = cell;
     return it;
 }
 
@@ -11327,7 +11341,7 @@ SMALL void atlas_store_slots_extending_hang(slice_Slot_2 slots, atlas_search_Lin
 SMALL uint32_t core_int_u32_min(uint32_t given_1, uint32_t given_2);
 SMALL uint64_t atlas_search_bands_step(uint32_t side);
 SMALL uint64_t atlas_search_bands_passed(uint32_t side, uint32_t threshold);
-SMALL bool atlas_search_search_show_entry_Slot(const atlas_store_Slot *entry, atlas_search_Link at, atlas_search_Best *best);
+SMALL bool atlas_search_search_showing_show_entry_Slot(const atlas_store_Slot *entry, atlas_search_Link at, atlas_search_Best *best);
 SMALL bool atlas_search_best_Best_has_equal_side(const atlas_search_Best *self);
 SMALL void atlas_search_search_search_row_Slot(slice_Slot entries, const atlas_search_Table *table, uint64_t row,
         atlas_search_Mask columns, atlas_search_Best *best);
@@ -11337,7 +11351,7 @@ SMALL atlas_search_Mask atlas_search_search_rows_with(const atlas_search_Table *
 SMALL void atlas_search_search_search_rows_Slot(slice_Slot entries, const atlas_search_Table *table, const atlas_search_Scale *options,
         atlas_search_Mask rows, uint64_t first, uint64_t end, atlas_search_Best *best);
 SMALL uint64_t atlas_search_table_Table_list_of_few(const atlas_search_Table *self, uint64_t i);
-SMALL void atlas_search_search_show_list_Slot(slice_Slot entries, atlas_search_Link top, atlas_search_Best *best);
+SMALL void atlas_search_search_showing_show_list_Slot(slice_Slot entries, atlas_search_Link top, atlas_search_Best *best);
 SMALL uint64_t std_alloc_vec_least_capacity_Allocation(void);
 SMALL bool std_alloc_vec_Vec_move_to_Allocation(Vec_Slot *self, uint64_t cap);
 SMALL void std_alloc_vec_Vec_truncate_within_Allocation_3(Vec_Slot *self, uint64_t n);
@@ -11710,8 +11724,11 @@ SMALL atlas_search_Mask atlas_search_search_columns_near(const atlas_search_Scal
         const atlas_search_Best *best);
 SMALL void atlas_search_search_search_larger_Slot(slice_Slot entries, const atlas_search_Table *table, uint64_t row,
         atlas_search_Mask columns, atlas_search_Best *best);
-SMALL void atlas_search_search_show_halves_Slot(slice_Slot entries, const atlas_store_Slot *fork, atlas_search_Cell cell,
-        atlas_search_Best *best);
+SMALL bool atlas_search_cells_Cell_is_cut_wide(atlas_search_Cell self);
+SMALL atlas_search_Halves atlas_search_cells_Cell_halves(atlas_search_Cell self, bool is_wide);
+SMALL bool atlas_search_best_Best_may_fit_in(const atlas_search_Best *self, atlas_search_Cell cell);
+SMALL void atlas_search_search_showing_show_halves_Slot(slice_Slot entries, const atlas_store_Slot *fork, atlas_search_Halves halves,
+        bool may_fit, atlas_search_Best *best);
 SMALL bool std_alloc_room_may_hold_Allocation(uint64_t n);
 SMALL Result_ptr std_alloc_vec_resize_Allocation(const void *alloc, void *ptr, uint64_t len, uint64_t old_cap, uint64_t new_cap);
 SMALL void std_alloc_vec_opened_drop_run_Allocation_3(Slots_CacheChange_u64 *row, uint64_t from, uint64_t to);
@@ -11736,14 +11753,14 @@ SMALL void core_mem_drop_Marks_2(const atlas_search_Marks x);
 SMALL void guillotiere_c_Destruct_none_drop_AllocId(atlas_model_AllocId given_1);
 SMALL guillotiere_FreeBox core_slots_Slots_take_FreeBox(Slots_CacheChange_u64 *self, uint64_t i);
 SMALL void core_mem_drop_FreeBox(guillotiere_FreeBox x);
-SMALL bool atlas_search_search_show_entry_FreeBox(const guillotiere_FreeBox *entry, atlas_search_Link at, atlas_search_Best *best);
+SMALL bool atlas_search_search_showing_show_entry_FreeBox(const guillotiere_FreeBox *entry, atlas_search_Link at, atlas_search_Best *best);
 SMALL void atlas_search_search_search_row_FreeBox(slice_FreeBox entries, const atlas_search_Table *table, uint64_t row,
         atlas_search_Mask columns, atlas_search_Best *best);
 SMALL void atlas_search_search_search_column_FreeBox(slice_FreeBox entries, const atlas_search_Table *table, uint64_t column,
         atlas_search_Mask rows, atlas_search_Best *best);
 SMALL void atlas_search_search_search_rows_FreeBox(slice_FreeBox entries, const atlas_search_Table *table,
         const atlas_search_Scale *options, atlas_search_Mask rows, uint64_t first, uint64_t end, atlas_search_Best *best);
-SMALL void atlas_search_search_show_list_FreeBox(slice_FreeBox entries, atlas_search_Link top, atlas_search_Best *best);
+SMALL void atlas_search_search_showing_show_list_FreeBox(slice_FreeBox entries, atlas_search_Link top, atlas_search_Best *best);
 SMALL atlas_search_Link atlas_search_heap_remove_FreeBox(slice_FreeBox_2 entries, atlas_search_Link at);
 SMALL uint64_t std_alloc_vec_least_capacity_FreeBox(void);
 SMALL void core_mem_drop_FreeBox_2(guillotiere_FreeBox x);
@@ -11759,8 +11776,7 @@ SMALL bool atlas_search_heap_is_fork_FreeBox(slice_FreeBox entries, atlas_search
 SMALL void atlas_search_heap_set_up_FreeBox(slice_FreeBox_2 entries, atlas_search_Link at, atlas_search_Link up);
 SMALL void atlas_search_heap_hang_FreeBox(slice_FreeBox_2 entries, atlas_search_Link top, atlas_search_Link part);
 SMALL atlas_search_Step atlas_search_cells_step_around(uint32_t side);
-SMALL atlas_search_Halves atlas_search_cells_Cell_halves(atlas_search_Cell self);
-SMALL bool atlas_search_cells_Cell_is_below_ends(atlas_search_Cell self, atlas_model_Size size);
+SMALL atlas_search_Half atlas_search_cells_Cell_half_of(atlas_search_Cell self, atlas_model_Size size);
 PART void atlas_search_heap_sorting_sink_FreeBox(slice_FreeBox_2 entries, atlas_search_Link up, atlas_search_Link below,
         atlas_search_Link at, uint32_t left, uint32_t right, uint32_t top, uint32_t bottom);
 SMALL void atlas_search_heap_sorting_make_fork_FreeBox(slice_FreeBox_2 entries, atlas_search_Cell cell, atlas_search_Link top);
@@ -12049,9 +12065,11 @@ SMALL void atlas_search_heap_sorting_make_fork_Slot(slice_Slot_2 entries, atlas_
 SMALL Option_u32 atlas_search_best_Best_rank_ahead(const atlas_search_Best *self, atlas_model_Rectangle rectangle, uint64_t corner);
 SMALL uint32_t atlas_search_best_reach_of(bool is_large, uint32_t rank);
 SMALL Option_Size atlas_search_best_Best_farthest(const atlas_search_Best *self);
-SMALL void atlas_search_search_show_larger_Slot(slice_Slot entries, atlas_search_Link top, atlas_search_Best *best);
-SMALL bool atlas_search_best_Best_may_fit_in(const atlas_search_Best *self, atlas_search_Cell cell);
-SMALL void atlas_search_search_show_within_Slot(slice_Slot entries, atlas_search_Link at, atlas_search_Cell cell, atlas_search_Best *best);
+SMALL void atlas_search_search_showing_show_larger_Slot(slice_Slot entries, atlas_search_Link top, atlas_search_Best *best);
+SMALL uint32_t atlas_search_cells_middle(uint32_t first, uint32_t end);
+SMALL bool atlas_search_best_Best_may_fit_by(const atlas_search_Best *self, atlas_search_Cell cell, bool is_wide);
+SMALL void atlas_search_search_showing_show_within_Slot(slice_Slot entries, atlas_search_Link at, atlas_search_Cell cell,
+        atlas_search_Best *best);
 SMALL bool atlas_search_best_Best_may_gain_in(const atlas_search_Best *self, atlas_search_Cell cell);
 SMALL Result_ptr std_heap_GlobalAllocator_grow_Allocation(const void *self, void *ptr, uint64_t len, uint64_t _old_cap, uint64_t new_cap);
 SMALL void core_mem_drop_Allocation_3(atlas_model_Allocation x);
@@ -12076,15 +12094,13 @@ SMALL void atlas_search_search_search_list_FreeBox(slice_FreeBox entries, const 
         atlas_search_Best *best);
 SMALL void atlas_search_search_search_larger_FreeBox(slice_FreeBox entries, const atlas_search_Table *table, uint64_t row,
         atlas_search_Mask columns, atlas_search_Best *best);
-SMALL void atlas_search_search_show_halves_FreeBox(slice_FreeBox entries, const guillotiere_FreeBox *fork, atlas_search_Cell cell,
-        atlas_search_Best *best);
+SMALL void atlas_search_search_showing_show_halves_FreeBox(slice_FreeBox entries, const guillotiere_FreeBox *fork,
+        atlas_search_Halves halves, bool may_fit, atlas_search_Best *best);
 SMALL atlas_search_Link atlas_search_heap_leaving_leave_FreeBox(slice_FreeBox_2 entries, atlas_search_Link at, atlas_search_Link up);
 SMALL void guillotiere_Destruct_none_drop_FreeBox(guillotiere_FreeBox given_1);
 SMALL void atlas_search_heap_hang_left_FreeBox(slice_FreeBox_2 entries, atlas_search_Link above, atlas_search_Link less);
 SMALL void atlas_search_heap_swap_below_FreeBox(slice_FreeBox_2 entries, atlas_search_Link above);
 SMALL atlas_search_Step atlas_search_cells_step_from(uint32_t side, uint32_t many);
-SMALL bool atlas_search_cells_Cell_is_cut_wide(atlas_search_Cell self);
-SMALL uint32_t atlas_search_cells_middle(uint32_t first, uint32_t end);
 SMALL void atlas_search_heap_move_below_FreeBox(slice_FreeBox_2 entries, atlas_search_Link at, atlas_search_Link up);
 SMALL atlas_search_Link atlas_search_heap_close_FreeBox(slice_FreeBox_2 entries, atlas_search_Link at, atlas_search_Link up);
 SMALL void guillotiere_Destruct_none_drop_Link(atlas_search_Link given_1);
@@ -12372,8 +12388,9 @@ SMALL bool atlas_search_best_Best_passes_larger(const atlas_search_Best *self, u
 SMALL void atlas_search_best_Best_look_larger(atlas_search_Best *self, atlas_model_Rectangle rectangle, uint64_t corner,
         atlas_search_Link at);
 SMALL bool atlas_search_best_Best_ends_in(const atlas_search_Best *self, atlas_search_Cell cell, uint64_t corner);
-PART void atlas_search_search_show_below_Slot(slice_Slot entries, const atlas_store_Slot *fork, atlas_search_Best *best, uint32_t left,
-        uint32_t right, uint32_t top, uint32_t bottom);
+SMALL bool atlas_search_cells_Cell_is_before_end(atlas_search_Cell self, atlas_model_Size size, bool is_wide);
+PART void atlas_search_search_showing_show_below_Slot(slice_Slot entries, const atlas_store_Slot *fork, atlas_search_Best *best,
+        uint32_t left, uint32_t right, uint32_t top, uint32_t bottom);
 SMALL bool atlas_search_cells_Cell_is_beyond(atlas_search_Cell self, atlas_model_Size size, uint32_t more);
 SMALL void core_slots_lends_with_slots_Allocation_u64(slice_Allocation_2 given_1, void *given_2, uint64_t given_3);
 SMALL bool core_slice_sort_order_ByKeyOrder_less_Allocation_Reverse_tuple_u64_u32(void *given_1, const atlas_model_Allocation *given_2,
@@ -12390,8 +12407,8 @@ SMALL bool core_slice_sort_fits_in_Allocation(uint64_t bytes);
 SMALL void core_slice_sort_small_network_sort_Allocation(slice_Allocation_2 s, void *order);
 SMALL tuple_slice_Allocation_slice_Allocation core_slice_slice_T_split_at_mut_Allocation(slice_Allocation_2 given_1, uint64_t given_2);
 SMALL void core_slice_edits_mirror_Allocation(slice_Allocation_2 front, uint64_t low, slice_Allocation_2 back, uint64_t n);
-SMALL void atlas_search_search_show_larger_FreeBox(slice_FreeBox entries, atlas_search_Link top, atlas_search_Best *best);
-SMALL void atlas_search_search_show_within_FreeBox(slice_FreeBox entries, atlas_search_Link at, atlas_search_Cell cell,
+SMALL void atlas_search_search_showing_show_larger_FreeBox(slice_FreeBox entries, atlas_search_Link top, atlas_search_Best *best);
+SMALL void atlas_search_search_showing_show_within_FreeBox(slice_FreeBox entries, atlas_search_Link at, atlas_search_Cell cell,
         atlas_search_Best *best);
 SMALL atlas_search_Link atlas_search_heap_leaving_leave_some_FreeBox(slice_FreeBox_2 entries, atlas_search_Link at, atlas_search_Link up);
 SMALL void std_alloc_vec_Vec_truncate_within_Slot_6(Vec_Slot *self, uint64_t n);
@@ -12631,7 +12648,7 @@ SMALL void core_slots_lends_with_slots_Allocation_2(slice_Allocation_2 given_1, 
 SMALL void core_slots_lends_with_slots_Allocation_3(slice_Allocation_2 given_1, void *given_2);
 SMALL tuple_slice_Allocation_slice_Allocation core_slice_split_at_mut_inner_Allocation(slice_Allocation_2 s, uint64_t mid);
 SMALL void core_mem_swap_Allocation(atlas_model_Allocation *x, atlas_model_Allocation *y);
-PART void atlas_search_search_show_below_FreeBox(slice_FreeBox entries, const guillotiere_FreeBox *fork, atlas_search_Best *best,
+PART void atlas_search_search_showing_show_below_FreeBox(slice_FreeBox entries, const guillotiere_FreeBox *fork, atlas_search_Best *best,
         uint32_t left, uint32_t right, uint32_t top, uint32_t bottom);
 SMALL bool atlas_search_heap_leaving_is_left_first_FreeBox(slice_FreeBox entries, atlas_search_Link left, atlas_search_Link right);
 PART void atlas_search_heap_leaving_lift_FreeBox(slice_FreeBox_2 entries, atlas_search_Link up, atlas_search_Link left,
@@ -30420,7 +30437,7 @@ SMALL Option_Link atlas_search_search_pick_alone_Slot(slice_Slot entries, const 
         return new_Option_Link_None();
     }
     best_10 = begun;
-    if (atlas_search_search_show_entry_Slot(((atlas_store_Slot *)entries.at + (uint64_t)link_9.number), link_9, &best_10)) {
+    if (atlas_search_search_showing_show_entry_Slot(((atlas_store_Slot *)entries.at + (uint64_t)link_9.number), link_9, &best_10)) {
         return new_Option_Link_None();
     }
     if (atlas_search_best_Best_has_equal_side(&best_10)) {
@@ -30496,7 +30513,7 @@ SMALL void atlas_search_search_search_few_Slot(slice_Slot entries, const atlas_s
         n_12 = core_int_usize_max(n_7, n_8);
         if (n_12 < end) {
             link_14 = atlas_search_table_Table_head(table, new_atlas_search_Place(n_7, n_8));
-            atlas_search_search_show_list_Slot(entries, link_14, best);
+            atlas_search_search_showing_show_list_Slot(entries, link_14, best);
         }
         n_5 = n_5 + 1u;
     }
@@ -35351,9 +35368,9 @@ SMALL uint64_t atlas_search_bands_passed(uint32_t side, uint32_t threshold) {
 
 /* Shows an entry to a search. Answers whether one that hangs below it may be better: where it is a fork, since else those have
  * its size and come no earlier, and where neither it nor a best that comes no later has an equal side.
- * crates/atlas_search/src/search.rt
+ * crates/atlas_search/src/search/showing.rt
  */
-SMALL bool atlas_search_search_show_entry_Slot(const atlas_store_Slot *entry, atlas_search_Link at, atlas_search_Best *best) {
+SMALL bool atlas_search_search_showing_show_entry_Slot(const atlas_store_Slot *entry, atlas_search_Link at, atlas_search_Best *best) {
     atlas_model_Rectangle rectangle_4;
     uint64_t n_5;
     rectangle_4 = atlas_store_slots_entry_SlotEntry_rectangle(entry);
@@ -35477,22 +35494,28 @@ SMALL uint64_t atlas_search_table_Table_list_of_few(const atlas_search_Table *se
 }
 
 /* Shows a list that begins with this to a search.
- * crates/atlas_search/src/search.rt
+ * crates/atlas_search/src/search/showing.rt
  */
-SMALL void atlas_search_search_show_list_Slot(slice_Slot entries, atlas_search_Link top, atlas_search_Best *best) {
+SMALL void atlas_search_search_showing_show_list_Slot(slice_Slot entries, atlas_search_Link top, atlas_search_Best *best) {
     const atlas_store_Slot *at_4;
     atlas_search_Cell cell_5;
-    atlas_model_Size size_12;
-    atlas_model_Rectangle rectangle_13;
+    atlas_search_Halves halves_6;
+    bool is_7;
+    atlas_model_Size size_14;
+    atlas_model_Rectangle rectangle_15;
+    bool is_16;
     if (entries.len <= (uint64_t)top.number) {
         return;
     }
     at_4 = ((atlas_store_Slot *)entries.at + (uint64_t)top.number);
-    if (atlas_search_search_show_entry_Slot(at_4, top, best)) {
-        rectangle_13 = atlas_store_slots_entry_SlotEntry_rectangle(at_4);
-        size_12 = atlas_search_cut_exact_size(rectangle_13);
-        cell_5 = atlas_search_cells_Cell_around(size_12);
-        atlas_search_search_show_halves_Slot(entries, at_4, cell_5, best);
+    if (atlas_search_search_showing_show_entry_Slot(at_4, top, best)) {
+        rectangle_15 = atlas_store_slots_entry_SlotEntry_rectangle(at_4);
+        size_14 = atlas_search_cut_exact_size(rectangle_15);
+        cell_5 = atlas_search_cells_Cell_around(size_14);
+        is_16 = atlas_search_cells_Cell_is_cut_wide(cell_5);
+        halves_6 = atlas_search_cells_Cell_halves(cell_5, is_16);
+        is_7 = atlas_search_best_Best_may_fit_in(best, halves_6.low);
+        atlas_search_search_showing_show_halves_Slot(entries, at_4, halves_6, is_7, best);
     }
 }
 
@@ -35842,7 +35865,7 @@ SMALL Option_Link atlas_search_search_pick_alone_FreeBox(slice_FreeBox entries, 
         return new_Option_Link_None();
     }
     best_10 = begun;
-    if (atlas_search_search_show_entry_FreeBox(((guillotiere_FreeBox *)entries.at + (uint64_t)link_9.number), link_9, &best_10)) {
+    if (atlas_search_search_showing_show_entry_FreeBox(((guillotiere_FreeBox *)entries.at + (uint64_t)link_9.number), link_9, &best_10)) {
         return new_Option_Link_None();
     }
     if (atlas_search_best_Best_has_equal_side(&best_10)) {
@@ -35905,7 +35928,7 @@ SMALL void atlas_search_search_search_few_FreeBox(slice_FreeBox entries, const a
         n_12 = core_int_usize_max(n_7, n_8);
         if (n_12 < end) {
             link_14 = atlas_search_table_Table_head(table, new_atlas_search_Place(n_7, n_8));
-            atlas_search_search_show_list_FreeBox(entries, link_14, best);
+            atlas_search_search_showing_show_list_FreeBox(entries, link_14, best);
         }
         n_5 = n_5 + 1u;
     }
@@ -36131,34 +36154,30 @@ SMALL bool atlas_search_heap_sorting_is_fork_before_FreeBox(slice_FreeBox entrie
 PART void atlas_search_heap_sorting_sort_below_FreeBox(slice_FreeBox_2 entries, atlas_search_Link above, atlas_search_Link at,
         uint32_t left, uint32_t right, uint32_t top, uint32_t bottom) {
     atlas_search_Links links_9;
-    atlas_search_Halves halves_10;
-    atlas_search_Cell cell_11;
+    atlas_search_Half half_10;
+    atlas_search_Link link_11;
     atlas_search_Link link_12;
-    atlas_search_Cell cell_13;
-    atlas_search_Link link_14;
-    atlas_model_Size size_19;
+    atlas_model_Size size_15;
+    atlas_search_Link link_19;
     links_9 = atlas_search_heap_links_at_FreeBox(new_slice_FreeBox(entries.at, entries.len), above);
-    halves_10 = atlas_search_cells_Cell_halves(new_atlas_search_Cell(left, right, top, bottom));
-    size_19 = atlas_search_heap_size_at_FreeBox(new_slice_FreeBox(entries.at, entries.len), at);
-    if (atlas_search_cells_Cell_is_below_ends(halves_10.low, size_19)) {
-        cell_11 = halves_10.low;
-        if (atlas_search_heap_sorting_is_fork_before_FreeBox(new_slice_FreeBox(entries.at, entries.len), links_9.left, at)) {
-            atlas_search_heap_sorting_sort_below_FreeBox(new_slice_FreeBox_2(entries.at, entries.len), links_9.left, at, cell_11.left,
-                    cell_11.right, cell_11.top, cell_11.bottom);
-            return;
-        }
-        link_12 = atlas_search_heap_sorting_sort_in_FreeBox(new_slice_FreeBox_2(entries.at, entries.len), cell_11, above, links_9.left, at);
+    size_15 = atlas_search_heap_size_at_FreeBox(new_slice_FreeBox(entries.at, entries.len), at);
+    half_10 = atlas_search_cells_Cell_half_of(new_atlas_search_Cell(left, right, top, bottom), size_15);
+    if (half_10.is_low) {
+        link_19 = links_9.left;
+    } else {
+        link_19 = links_9.right;
+    }
+    link_11 = link_19;
+    if (atlas_search_heap_sorting_is_fork_before_FreeBox(new_slice_FreeBox(entries.at, entries.len), link_11, at)) {
+        atlas_search_heap_sorting_sort_below_FreeBox(new_slice_FreeBox_2(entries.at, entries.len), link_11, at, half_10.cell.left,
+                half_10.cell.right, half_10.cell.top, half_10.cell.bottom);
+        return;
+    }
+    link_12 = atlas_search_heap_sorting_sort_in_FreeBox(new_slice_FreeBox_2(entries.at, entries.len), half_10.cell, above, link_11, at);
+    if (half_10.is_low) {
         atlas_search_heap_relink_FreeBox(new_slice_FreeBox_2(entries.at, entries.len), above, links_9.up, link_12, links_9.right);
     } else {
-        cell_13 = halves_10.high;
-        if (atlas_search_heap_sorting_is_fork_before_FreeBox(new_slice_FreeBox(entries.at, entries.len), links_9.right, at)) {
-            atlas_search_heap_sorting_sort_below_FreeBox(new_slice_FreeBox_2(entries.at, entries.len), links_9.right, at, cell_13.left,
-                    cell_13.right, cell_13.top, cell_13.bottom);
-            return;
-        }
-        link_14 = atlas_search_heap_sorting_sort_in_FreeBox(new_slice_FreeBox_2(entries.at, entries.len), cell_13, above, links_9.right,
-                at);
-        atlas_search_heap_relink_FreeBox(new_slice_FreeBox_2(entries.at, entries.len), above, links_9.up, links_9.left, link_14);
+        atlas_search_heap_relink_FreeBox(new_slice_FreeBox_2(entries.at, entries.len), above, links_9.up, links_9.left, link_12);
     }
 }
 
@@ -40181,33 +40200,30 @@ SMALL bool atlas_search_heap_sorting_is_fork_before_Slot(slice_Slot entries, atl
 PART void atlas_search_heap_sorting_sort_below_Slot(slice_Slot_2 entries, atlas_search_Link above, atlas_search_Link at, uint32_t left,
         uint32_t right, uint32_t top, uint32_t bottom) {
     atlas_search_Links links_9;
-    atlas_search_Halves halves_10;
-    atlas_search_Cell cell_11;
+    atlas_search_Half half_10;
+    atlas_search_Link link_11;
     atlas_search_Link link_12;
-    atlas_search_Cell cell_13;
-    atlas_search_Link link_14;
-    atlas_model_Size size_19;
+    atlas_model_Size size_15;
+    atlas_search_Link link_19;
     links_9 = atlas_search_heap_links_at_Slot(new_slice_Slot(entries.at, entries.len), above);
-    halves_10 = atlas_search_cells_Cell_halves(new_atlas_search_Cell(left, right, top, bottom));
-    size_19 = atlas_search_heap_size_at_Slot(new_slice_Slot(entries.at, entries.len), at);
-    if (atlas_search_cells_Cell_is_below_ends(halves_10.low, size_19)) {
-        cell_11 = halves_10.low;
-        if (atlas_search_heap_sorting_is_fork_before_Slot(new_slice_Slot(entries.at, entries.len), links_9.left, at)) {
-            atlas_search_heap_sorting_sort_below_Slot(new_slice_Slot_2(entries.at, entries.len), links_9.left, at, cell_11.left,
-                    cell_11.right, cell_11.top, cell_11.bottom);
-            return;
-        }
-        link_12 = atlas_search_heap_sorting_sort_in_Slot(new_slice_Slot_2(entries.at, entries.len), cell_11, above, links_9.left, at);
+    size_15 = atlas_search_heap_size_at_Slot(new_slice_Slot(entries.at, entries.len), at);
+    half_10 = atlas_search_cells_Cell_half_of(new_atlas_search_Cell(left, right, top, bottom), size_15);
+    if (half_10.is_low) {
+        link_19 = links_9.left;
+    } else {
+        link_19 = links_9.right;
+    }
+    link_11 = link_19;
+    if (atlas_search_heap_sorting_is_fork_before_Slot(new_slice_Slot(entries.at, entries.len), link_11, at)) {
+        atlas_search_heap_sorting_sort_below_Slot(new_slice_Slot_2(entries.at, entries.len), link_11, at, half_10.cell.left,
+                half_10.cell.right, half_10.cell.top, half_10.cell.bottom);
+        return;
+    }
+    link_12 = atlas_search_heap_sorting_sort_in_Slot(new_slice_Slot_2(entries.at, entries.len), half_10.cell, above, link_11, at);
+    if (half_10.is_low) {
         atlas_search_heap_relink_Slot(new_slice_Slot_2(entries.at, entries.len), above, links_9.up, link_12, links_9.right);
     } else {
-        cell_13 = halves_10.high;
-        if (atlas_search_heap_sorting_is_fork_before_Slot(new_slice_Slot(entries.at, entries.len), links_9.right, at)) {
-            atlas_search_heap_sorting_sort_below_Slot(new_slice_Slot_2(entries.at, entries.len), links_9.right, at, cell_13.left,
-                    cell_13.right, cell_13.top, cell_13.bottom);
-            return;
-        }
-        link_14 = atlas_search_heap_sorting_sort_in_Slot(new_slice_Slot_2(entries.at, entries.len), cell_13, above, links_9.right, at);
-        atlas_search_heap_relink_Slot(new_slice_Slot_2(entries.at, entries.len), above, links_9.up, links_9.left, link_14);
+        atlas_search_heap_relink_Slot(new_slice_Slot_2(entries.at, entries.len), above, links_9.up, links_9.left, link_12);
     }
 }
 
@@ -40324,7 +40340,7 @@ SMALL void atlas_search_search_search_list_Slot(slice_Slot entries, const atlas_
         atlas_search_Best *best) {
     atlas_search_Link link_6;
     link_6 = atlas_search_table_Table_stored_head(table, place);
-    atlas_search_search_show_list_Slot(entries, link_6, best);
+    atlas_search_search_showing_show_list_Slot(entries, link_6, best);
 }
 
 /* Of the columns of a row those with a list that may hold a better box than the best.
@@ -40361,30 +40377,81 @@ SMALL void atlas_search_search_search_larger_Slot(slice_Slot entries, const atla
         option_8 = atlas_search_masks_Mask_take_first(&mask_6);
         if (option_8.tag == 1u /* Some */) {
             link_11 = atlas_search_table_Table_stored_head(table, new_atlas_search_Place(row, option_8.Some.field_0));
-            atlas_search_search_show_larger_Slot(entries, link_11, best);
+            atlas_search_search_showing_show_larger_Slot(entries, link_11, best);
         } else {
             break;
         }
     }
 }
 
-/* Shows what hangs below a fork of sizes of a cell to a search, but for what can't be the best: of the halves only those are entered that
- * may have a better one.
- * crates/atlas_search/src/search.rt
+/* Whether it is divided by width.
+ * crates/atlas_search/src/cells.rt
  */
-SMALL void atlas_search_search_show_halves_Slot(slice_Slot entries, const atlas_store_Slot *fork, atlas_search_Cell cell,
-        atlas_search_Best *best) {
-    atlas_search_Halves halves_5;
-    atlas_search_Link link_10;
-    atlas_search_Link link_17;
-    halves_5 = atlas_search_cells_Cell_halves(cell);
-    if (atlas_search_best_Best_may_fit_in(best, halves_5.low)) {
-        link_10 = atlas_store_slots_entry_SlotEntry_left(fork);
-        atlas_search_search_show_within_Slot(entries, link_10, halves_5.low, best);
+SMALL bool atlas_search_cells_Cell_is_cut_wide(atlas_search_Cell self) {
+    uint32_t n_2;
+    uint32_t n_3;
+    bool is_5;
+    bool is_6;
+    n_2 = self.right - self.left;
+    n_3 = self.bottom - self.top;
+    if (n_2 <= n_3) {
+        is_6 = n_2 == 2u;
+        if (!is_6) {
+            is_6 = n_2 == n_3;
+        }
+        is_5 = is_6;
+    } else {
+        is_5 = n_3 != 2u;
     }
-    if (atlas_search_best_Best_may_gain_in(best, halves_5.high)) {
-        link_17 = atlas_store_slots_entry_SlotEntry_right(fork);
-        atlas_search_search_show_within_Slot(entries, link_17, halves_5.high, best);
+    return is_5;
+}
+
+/* The halves of a cell that is divided by width, or by height.
+ * crates/atlas_search/src/cells.rt
+ */
+SMALL atlas_search_Halves atlas_search_cells_Cell_halves(atlas_search_Cell self, bool is_wide) {
+    uint32_t n_3;
+    uint32_t n_4;
+    atlas_search_Halves halves_6;
+    if (is_wide) {
+        n_3 = atlas_search_cells_middle(self.left, self.right);
+        halves_6 = new_atlas_search_Halves(new_atlas_search_Cell(self.left, n_3, self.top, self.bottom), new_atlas_search_Cell(n_3,
+                self.right, self.top, self.bottom));
+    } else {
+        n_4 = atlas_search_cells_middle(self.top, self.bottom);
+        halves_6 = new_atlas_search_Halves(new_atlas_search_Cell(self.left, self.right, self.top, n_4), new_atlas_search_Cell(self.left,
+                self.right, n_4, self.bottom));
+    }
+    return halves_6;
+}
+
+/* Whether the request may fit a box of a size in this cell.
+ * crates/atlas_search/src/best.rt
+ */
+SMALL bool atlas_search_best_Best_may_fit_in(const atlas_search_Best *self, atlas_search_Cell cell) {
+    bool is_3;
+    is_3 = atlas_search_best_Best_may_fit_by(self, cell, true);
+    if (is_3) {
+        is_3 = atlas_search_best_Best_may_fit_by(self, cell, false);
+    }
+    return is_3;
+}
+
+/* Shows what hangs below a fork, by the halves of its cell, to a search, but for what can't be the best: of the halves only those are
+ * entered that may have a better one; of the low one it is given whether the request may fit a box.
+ * crates/atlas_search/src/search/showing.rt
+ */
+SMALL void atlas_search_search_showing_show_halves_Slot(slice_Slot entries, const atlas_store_Slot *fork, atlas_search_Halves halves,
+        bool may_fit, atlas_search_Best *best) {
+    atlas_search_Link link_8;
+    atlas_search_Link link_15;
+    if (may_fit) {
+        link_8 = atlas_store_slots_entry_SlotEntry_left(fork);
+        atlas_search_search_showing_show_within_Slot(entries, link_8, halves.low, best);
+    }
+    if (atlas_search_best_Best_may_gain_in(best, halves.high)) {
+        link_15 = atlas_store_slots_entry_SlotEntry_right(fork);
+        atlas_search_search_showing_show_within_Slot(entries, link_15, halves.high, best);
     }
 }
 
@@ -40704,9 +40771,9 @@ SMALL void core_mem_drop_FreeBox(guillotiere_FreeBox x) {
 
 /* Shows an entry to a search. Answers whether one that hangs below it may be better: where it is a fork, since else those have
  * its size and come no earlier, and where neither it nor a best that comes no later has an equal side.
- * crates/atlas_search/src/search.rt
+ * crates/atlas_search/src/search/showing.rt
  */
-SMALL bool atlas_search_search_show_entry_FreeBox(const guillotiere_FreeBox *entry, atlas_search_Link at, atlas_search_Best *best) {
+SMALL bool atlas_search_search_showing_show_entry_FreeBox(const guillotiere_FreeBox *entry, atlas_search_Link at, atlas_search_Best *best) {
     atlas_model_Rectangle rectangle_4;
     uint64_t n_5;
     rectangle_4 = guillotiere_simple_boxes_FreeBoxEntry_rectangle(entry);
@@ -40785,22 +40852,28 @@ SMALL void atlas_search_search_search_rows_FreeBox(slice_FreeBox entries, const 
 }
 
 /* Shows a list that begins with this to a search.
- * crates/atlas_search/src/search.rt
+ * crates/atlas_search/src/search/showing.rt
  */
-SMALL void atlas_search_search_show_list_FreeBox(slice_FreeBox entries, atlas_search_Link top, atlas_search_Best *best) {
+SMALL void atlas_search_search_showing_show_list_FreeBox(slice_FreeBox entries, atlas_search_Link top, atlas_search_Best *best) {
     const guillotiere_FreeBox *at_4;
     atlas_search_Cell cell_5;
-    atlas_model_Size size_12;
-    atlas_model_Rectangle rectangle_13;
+    atlas_search_Halves halves_6;
+    bool is_7;
+    atlas_model_Size size_14;
+    atlas_model_Rectangle rectangle_15;
+    bool is_16;
     if (entries.len <= (uint64_t)top.number) {
         return;
     }
     at_4 = ((guillotiere_FreeBox *)entries.at + (uint64_t)top.number);
-    if (atlas_search_search_show_entry_FreeBox(at_4, top, best)) {
-        rectangle_13 = guillotiere_simple_boxes_FreeBoxEntry_rectangle(at_4);
-        size_12 = atlas_search_cut_exact_size(rectangle_13);
-        cell_5 = atlas_search_cells_Cell_around(size_12);
-        atlas_search_search_show_halves_FreeBox(entries, at_4, cell_5, best);
+    if (atlas_search_search_showing_show_entry_FreeBox(at_4, top, best)) {
+        rectangle_15 = guillotiere_simple_boxes_FreeBoxEntry_rectangle(at_4);
+        size_14 = atlas_search_cut_exact_size(rectangle_15);
+        cell_5 = atlas_search_cells_Cell_around(size_14);
+        is_16 = atlas_search_cells_Cell_is_cut_wide(cell_5);
+        halves_6 = atlas_search_cells_Cell_halves(cell_5, is_16);
+        is_7 = atlas_search_best_Best_may_fit_in(best, halves_6.low);
+        atlas_search_search_showing_show_halves_FreeBox(entries, at_4, halves_6, is_7, best);
     }
 }
 
@@ -40988,35 +41061,37 @@ SMALL atlas_search_Step atlas_search_cells_step_around(uint32_t side) {
     return step_3;
 }
 
-/* The halves of a cell of more than one size.
+/* The half that a size of a cell of more than one size is in.
  * crates/atlas_search/src/cells.rt
  */
-SMALL atlas_search_Halves atlas_search_cells_Cell_halves(atlas_search_Cell self) {
-    uint32_t n_2;
+SMALL atlas_search_Half atlas_search_cells_Cell_half_of(atlas_search_Cell self, atlas_model_Size size) {
     uint32_t n_3;
-    atlas_search_Halves halves_5;
+    uint32_t n_4;
+    uint32_t n_5;
+    uint32_t n_6;
+    atlas_search_Half half_8;
+    atlas_search_Half half_10;
+    atlas_search_Half half_20;
+    n_3 = size.width;
+    n_4 = size.height;
     if (atlas_search_cells_Cell_is_cut_wide(self)) {
-        n_2 = atlas_search_cells_middle(self.left, self.right);
-        halves_5 = new_atlas_search_Halves(new_atlas_search_Cell(self.left, n_2, self.top, self.bottom), new_atlas_search_Cell(n_2,
-                self.right, self.top, self.bottom));
+        n_5 = atlas_search_cells_middle(self.left, self.right);
+        if (n_3 < n_5) {
+            half_10 = new_atlas_search_Half(true, new_atlas_search_Cell(self.left, n_5, self.top, self.bottom));
+        } else {
+            half_10 = new_atlas_search_Half(false, new_atlas_search_Cell(n_5, self.right, self.top, self.bottom));
+        }
+        half_8 = half_10;
     } else {
-        n_3 = atlas_search_cells_middle(self.top, self.bottom);
-        halves_5 = new_atlas_search_Halves(new_atlas_search_Cell(self.left, self.right, self.top, n_3), new_atlas_search_Cell(self.left,
-                self.right, n_3, self.bottom));
+        n_6 = atlas_search_cells_middle(self.top, self.bottom);
+        if (n_4 < n_6) {
+            half_20 = new_atlas_search_Half(true, new_atlas_search_Cell(self.left, self.right, self.top, n_6));
+        } else {
+            half_20 = new_atlas_search_Half(false, new_atlas_search_Cell(self.left, self.right, n_6, self.bottom));
+        }
+        half_8 = half_20;
     }
-    return halves_5;
-}
-
-/* Whether both sides of a size are before the ends.
- * crates/atlas_search/src/cells.rt
- */
-SMALL bool atlas_search_cells_Cell_is_below_ends(atlas_search_Cell self, atlas_model_Size size) {
-    bool is_3;
-    is_3 = size.width < self.right;
-    if (is_3) {
-        is_3 = size.height < self.bottom;
-    }
-    return is_3;
+    return half_8;
 }
 
 /* An entry takes the place of a heap's top, which doesn't come before it, and hangs below `up`. That top goes on below it in the same way,
@@ -41028,10 +41103,8 @@ PART void atlas_search_heap_sorting_sink_FreeBox(slice_FreeBox_2 entries, atlas_
     atlas_search_Link link_9;
     atlas_search_Cell cell_10;
     atlas_search_Links links_11;
-    atlas_search_Halves halves_12;
-    atlas_search_Cell cell_13;
-    atlas_search_Cell cell_14;
-    atlas_model_Size size_34;
+    atlas_search_Half half_12;
+    atlas_model_Size size_30;
     link_9 = new_atlas_search_Link(4294967295u);
     if (below.number == 4294967295u) {
         atlas_search_heap_put_FreeBox(new_slice_FreeBox_2(entries.at, entries.len), at, up, link_9, link_9, false);
@@ -41045,20 +41118,18 @@ PART void atlas_search_heap_sorting_sink_FreeBox(slice_FreeBox_2 entries, atlas_
     cell_10 = new_atlas_search_Cell(left, right, top, bottom);
     atlas_search_heap_sorting_make_fork_FreeBox(new_slice_FreeBox_2(entries.at, entries.len), cell_10, below);
     links_11 = atlas_search_heap_links_at_FreeBox(new_slice_FreeBox(entries.at, entries.len), below);
-    halves_12 = atlas_search_cells_Cell_halves(cell_10);
-    size_34 = atlas_search_heap_size_at_FreeBox(new_slice_FreeBox(entries.at, entries.len), below);
-    if (atlas_search_cells_Cell_is_below_ends(halves_12.low, size_34)) {
-        cell_13 = halves_12.low;
+    size_30 = atlas_search_heap_size_at_FreeBox(new_slice_FreeBox(entries.at, entries.len), below);
+    half_12 = atlas_search_cells_Cell_half_of(cell_10, size_30);
+    if (half_12.is_low) {
         atlas_search_heap_put_FreeBox(new_slice_FreeBox_2(entries.at, entries.len), at, up, below, links_11.right, true);
         atlas_search_heap_move_below_FreeBox(new_slice_FreeBox_2(entries.at, entries.len), links_11.right, at);
-        atlas_search_heap_sorting_sink_FreeBox(new_slice_FreeBox_2(entries.at, entries.len), at, links_11.left, below, cell_13.left,
-                cell_13.right, cell_13.top, cell_13.bottom);
+        atlas_search_heap_sorting_sink_FreeBox(new_slice_FreeBox_2(entries.at, entries.len), at, links_11.left, below, half_12.cell.left,
+                half_12.cell.right, half_12.cell.top, half_12.cell.bottom);
     } else {
-        cell_14 = halves_12.high;
         atlas_search_heap_put_FreeBox(new_slice_FreeBox_2(entries.at, entries.len), at, up, links_11.left, below, true);
         atlas_search_heap_move_below_FreeBox(new_slice_FreeBox_2(entries.at, entries.len), links_11.left, at);
-        atlas_search_heap_sorting_sink_FreeBox(new_slice_FreeBox_2(entries.at, entries.len), at, links_11.right, below, cell_14.left,
-                cell_14.right, cell_14.top, cell_14.bottom);
+        atlas_search_heap_sorting_sink_FreeBox(new_slice_FreeBox_2(entries.at, entries.len), at, links_11.right, below, half_12.cell.left,
+                half_12.cell.right, half_12.cell.top, half_12.cell.bottom);
     }
 }
 
@@ -41071,7 +41142,7 @@ SMALL void atlas_search_heap_sorting_make_fork_FreeBox(slice_FreeBox_2 entries, 
     atlas_model_Size size_6;
     atlas_search_Link link_7;
     atlas_search_Links links_11;
-    atlas_search_Halves halves_19;
+    atlas_search_Half half_18;
     if (atlas_search_heap_is_fork_FreeBox(new_slice_FreeBox(entries.at, entries.len), top)) {
         return;
     }
@@ -41080,8 +41151,8 @@ SMALL void atlas_search_heap_sorting_make_fork_FreeBox(slice_FreeBox_2 entries, 
     link_5 = links_11.up;
     size_6 = atlas_search_heap_size_at_FreeBox(new_slice_FreeBox(entries.at, entries.len), top);
     link_7 = atlas_search_heap_close_FreeBox(new_slice_FreeBox_2(entries.at, entries.len), top, top);
-    halves_19 = atlas_search_cells_Cell_halves(cell);
-    if (atlas_search_cells_Cell_is_below_ends(halves_19.low, size_6)) {
+    half_18 = atlas_search_cells_Cell_half_of(cell, size_6);
+    if (half_18.is_low) {
         atlas_search_heap_put_FreeBox(new_slice_FreeBox_2(entries.at, entries.len), top, link_5, link_7, link_4, true);
     } else {
         atlas_search_heap_put_FreeBox(new_slice_FreeBox_2(entries.at, entries.len), top, link_5, link_4, link_7, true);
@@ -45174,10 +45245,8 @@ PART void atlas_search_heap_sorting_sink_Slot(slice_Slot_2 entries, atlas_search
     atlas_search_Link link_9;
     atlas_search_Cell cell_10;
     atlas_search_Links links_11;
-    atlas_search_Halves halves_12;
-    atlas_search_Cell cell_13;
-    atlas_search_Cell cell_14;
-    atlas_model_Size size_34;
+    atlas_search_Half half_12;
+    atlas_model_Size size_30;
     link_9 = new_atlas_search_Link(4294967295u);
     if (below.number == 4294967295u) {
         atlas_search_heap_put_Slot(new_slice_Slot_2(entries.at, entries.len), at, up, link_9, link_9, false);
@@ -45191,20 +45260,18 @@ PART void atlas_search_heap_sorting_sink_Slot(slice_Slot_2 entries, atlas_search
     cell_10 = new_atlas_search_Cell(left, right, top, bottom);
     atlas_search_heap_sorting_make_fork_Slot(new_slice_Slot_2(entries.at, entries.len), cell_10, below);
     links_11 = atlas_search_heap_links_at_Slot(new_slice_Slot(entries.at, entries.len), below);
-    halves_12 = atlas_search_cells_Cell_halves(cell_10);
-    size_34 = atlas_search_heap_size_at_Slot(new_slice_Slot(entries.at, entries.len), below);
-    if (atlas_search_cells_Cell_is_below_ends(halves_12.low, size_34)) {
-        cell_13 = halves_12.low;
+    size_30 = atlas_search_heap_size_at_Slot(new_slice_Slot(entries.at, entries.len), below);
+    half_12 = atlas_search_cells_Cell_half_of(cell_10, size_30);
+    if (half_12.is_low) {
         atlas_search_heap_put_Slot(new_slice_Slot_2(entries.at, entries.len), at, up, below, links_11.right, true);
         atlas_search_heap_move_below_Slot(new_slice_Slot_2(entries.at, entries.len), links_11.right, at);
-        atlas_search_heap_sorting_sink_Slot(new_slice_Slot_2(entries.at, entries.len), at, links_11.left, below, cell_13.left,
-                cell_13.right, cell_13.top, cell_13.bottom);
+        atlas_search_heap_sorting_sink_Slot(new_slice_Slot_2(entries.at, entries.len), at, links_11.left, below, half_12.cell.left,
+                half_12.cell.right, half_12.cell.top, half_12.cell.bottom);
     } else {
-        cell_14 = halves_12.high;
         atlas_search_heap_put_Slot(new_slice_Slot_2(entries.at, entries.len), at, up, links_11.left, below, true);
         atlas_search_heap_move_below_Slot(new_slice_Slot_2(entries.at, entries.len), links_11.left, at);
-        atlas_search_heap_sorting_sink_Slot(new_slice_Slot_2(entries.at, entries.len), at, links_11.right, below, cell_14.left,
-                cell_14.right, cell_14.top, cell_14.bottom);
+        atlas_search_heap_sorting_sink_Slot(new_slice_Slot_2(entries.at, entries.len), at, links_11.right, below, half_12.cell.left,
+                half_12.cell.right, half_12.cell.top, half_12.cell.bottom);
     }
 }
 
@@ -45217,7 +45284,7 @@ SMALL void atlas_search_heap_sorting_make_fork_Slot(slice_Slot_2 entries, atlas_
     atlas_model_Size size_6;
     atlas_search_Link link_7;
     atlas_search_Links links_11;
-    atlas_search_Halves halves_19;
+    atlas_search_Half half_18;
     if (atlas_search_heap_is_fork_Slot(new_slice_Slot(entries.at, entries.len), top)) {
         return;
     }
@@ -45226,8 +45293,8 @@ SMALL void atlas_search_heap_sorting_make_fork_Slot(slice_Slot_2 entries, atlas_
     link_5 = links_11.up;
     size_6 = atlas_search_heap_size_at_Slot(new_slice_Slot(entries.at, entries.len), top);
     link_7 = atlas_search_heap_close_Slot(new_slice_Slot_2(entries.at, entries.len), top, top);
-    halves_19 = atlas_search_cells_Cell_halves(cell);
-    if (atlas_search_cells_Cell_is_below_ends(halves_19.low, size_6)) {
+    half_18 = atlas_search_cells_Cell_half_of(cell, size_6);
+    if (half_18.is_low) {
         atlas_search_heap_put_Slot(new_slice_Slot_2(entries.at, entries.len), top, link_5, link_7, link_4, true);
     } else {
         atlas_search_heap_put_Slot(new_slice_Slot_2(entries.at, entries.len), top, link_5, link_4, link_7, true);
@@ -45294,14 +45361,17 @@ after_2:;
 }
 
 /* Shows a list of sizes that are larger than the request's, both sides, to a search. It may be enough to look at its first entry.
- * crates/atlas_search/src/search.rt
+ * crates/atlas_search/src/search/showing.rt
  */
-SMALL void atlas_search_search_show_larger_Slot(slice_Slot entries, atlas_search_Link top, atlas_search_Best *best) {
+SMALL void atlas_search_search_showing_show_larger_Slot(slice_Slot entries, atlas_search_Link top, atlas_search_Best *best) {
     const atlas_store_Slot *at_4;
     atlas_model_Rectangle rectangle_5;
     uint64_t n_6;
     atlas_search_Cell cell_7;
-    atlas_model_Size size_17;
+    atlas_search_Halves halves_8;
+    bool is_9;
+    atlas_model_Size size_19;
+    bool is_22;
     if (entries.len <= (uint64_t)top.number) {
         return;
     }
@@ -45313,33 +45383,44 @@ SMALL void atlas_search_search_show_larger_Slot(slice_Slot entries, atlas_search
     }
     atlas_search_best_Best_look_larger(best, rectangle_5, n_6, top);
     if (atlas_store_slots_entry_SlotEntry_is_fork(at_4)) {
-        size_17 = atlas_search_cut_exact_size(rectangle_5);
-        cell_7 = atlas_search_cells_Cell_around(size_17);
+        size_19 = atlas_search_cut_exact_size(rectangle_5);
+        cell_7 = atlas_search_cells_Cell_around(size_19);
         if (atlas_search_best_Best_ends_in(best, cell_7, n_6)) {
             return;
         }
-        atlas_search_search_show_halves_Slot(entries, at_4, cell_7, best);
+        is_22 = atlas_search_cells_Cell_is_cut_wide(cell_7);
+        halves_8 = atlas_search_cells_Cell_halves(cell_7, is_22);
+        is_9 = atlas_search_best_Best_may_fit_in(best, halves_8.low);
+        atlas_search_search_showing_show_halves_Slot(entries, at_4, halves_8, is_9, best);
     }
 }
 
-/* Whether the request may fit a box of a size in this cell: both of its sides are before the ends.
+/* Where sides are divided.
+ * crates/atlas_search/src/cells.rt
+ */
+SMALL uint32_t atlas_search_cells_middle(uint32_t first, uint32_t end) {
+    return core_int_u32_min(first + ((end - first) / 2u), 2u * first);
+}
+
+/* Whether the request may fit a box of a size in this cell, by the widths there alone, or by the heights.
  * crates/atlas_search/src/best.rt
  */
-SMALL bool atlas_search_best_Best_may_fit_in(const atlas_search_Best *self, atlas_search_Cell cell) {
-    return atlas_search_cells_Cell_is_below_ends(cell, self->size);
+SMALL bool atlas_search_best_Best_may_fit_by(const atlas_search_Best *self, atlas_search_Cell cell, bool is_wide) {
+    return atlas_search_cells_Cell_is_before_end(cell, self->size, is_wide);
 }
 
 /* Shows the entries of a heap with this top and of sizes of a cell to a search, but for those that can't be the best.
- * crates/atlas_search/src/search.rt
+ * crates/atlas_search/src/search/showing.rt
  */
-SMALL void atlas_search_search_show_within_Slot(slice_Slot entries, atlas_search_Link at, atlas_search_Cell cell, atlas_search_Best *best) {
+SMALL void atlas_search_search_showing_show_within_Slot(slice_Slot entries, atlas_search_Link at, atlas_search_Cell cell,
+        atlas_search_Best *best) {
     const atlas_store_Slot *at_5;
     if (entries.len <= (uint64_t)at.number) {
         return;
     }
     at_5 = ((atlas_store_Slot *)entries.at + (uint64_t)at.number);
-    if (atlas_search_search_show_entry_Slot(at_5, at, best)) {
-        atlas_search_search_show_below_Slot(entries, at_5, best, cell.left, cell.right, cell.top, cell.bottom);
+    if (atlas_search_search_showing_show_entry_Slot(at_5, at, best)) {
+        atlas_search_search_showing_show_below_Slot(entries, at_5, best, cell.left, cell.right, cell.top, cell.bottom);
     }
 }
 
@@ -45580,7 +45661,7 @@ SMALL void atlas_search_search_search_list_FreeBox(slice_FreeBox entries, const 
         atlas_search_Best *best) {
     atlas_search_Link link_6;
     link_6 = atlas_search_table_Table_stored_head(table, place);
-    atlas_search_search_show_list_FreeBox(entries, link_6, best);
+    atlas_search_search_showing_show_list_FreeBox(entries, link_6, best);
 }
 
 /* Shows lists of a row that lie to the right of a request's own and below it to a search.
@@ -45596,30 +45677,28 @@ SMALL void atlas_search_search_search_larger_FreeBox(slice_FreeBox entries, cons
         option_8 = atlas_search_masks_Mask_take_first(&mask_6);
         if (option_8.tag == 1u /* Some */) {
             link_11 = atlas_search_table_Table_stored_head(table, new_atlas_search_Place(row, option_8.Some.field_0));
-            atlas_search_search_show_larger_FreeBox(entries, link_11, best);
+            atlas_search_search_showing_show_larger_FreeBox(entries, link_11, best);
         } else {
             break;
         }
     }
 }
 
-/* Shows what hangs below a fork of sizes of a cell to a search, but for what can't be the best: of the halves only those are entered that
- * may have a better one.
- * crates/atlas_search/src/search.rt
+/* Shows what hangs below a fork, by the halves of its cell, to a search, but for what can't be the best: of the halves only those are
+ * entered that may have a better one; of the low one it is given whether the request may fit a box.
+ * crates/atlas_search/src/search/showing.rt
  */
-SMALL void atlas_search_search_show_halves_FreeBox(slice_FreeBox entries, const guillotiere_FreeBox *fork, atlas_search_Cell cell,
-        atlas_search_Best *best) {
-    atlas_search_Halves halves_5;
-    atlas_search_Link link_10;
-    atlas_search_Link link_17;
-    halves_5 = atlas_search_cells_Cell_halves(cell);
-    if (atlas_search_best_Best_may_fit_in(best, halves_5.low)) {
-        link_10 = guillotiere_simple_boxes_FreeBoxEntry_left(fork);
-        atlas_search_search_show_within_FreeBox(entries, link_10, halves_5.low, best);
+SMALL void atlas_search_search_showing_show_halves_FreeBox(slice_FreeBox entries, const guillotiere_FreeBox *fork,
+        atlas_search_Halves halves, bool may_fit, atlas_search_Best *best) {
+    atlas_search_Link link_8;
+    atlas_search_Link link_15;
+    if (may_fit) {
+        link_8 = guillotiere_simple_boxes_FreeBoxEntry_left(fork);
+        atlas_search_search_showing_show_within_FreeBox(entries, link_8, halves.low, best);
     }
-    if (atlas_search_best_Best_may_gain_in(best, halves_5.high)) {
-        link_17 = guillotiere_simple_boxes_FreeBoxEntry_right(fork);
-        atlas_search_search_show_within_FreeBox(entries, link_17, halves_5.high, best);
+    if (atlas_search_best_Best_may_gain_in(best, halves.high)) {
+        link_15 = guillotiere_simple_boxes_FreeBoxEntry_right(fork);
+        atlas_search_search_showing_show_within_FreeBox(entries, link_15, halves.high, best);
     }
 }
 
@@ -45668,35 +45747,6 @@ SMALL atlas_search_Step atlas_search_cells_step_from(uint32_t side, uint32_t man
     uint32_t n_3;
     n_3 = (side / many) * many;
     return new_atlas_search_Step(n_3, n_3 + many);
-}
-
-/* Whether it is divided by width.
- * crates/atlas_search/src/cells.rt
- */
-SMALL bool atlas_search_cells_Cell_is_cut_wide(atlas_search_Cell self) {
-    uint32_t n_2;
-    uint32_t n_3;
-    bool is_5;
-    bool is_6;
-    n_2 = self.right - self.left;
-    n_3 = self.bottom - self.top;
-    if (n_2 <= n_3) {
-        is_6 = n_2 == 2u;
-        if (!is_6) {
-            is_6 = n_2 == n_3;
-        }
-        is_5 = is_6;
-    } else {
-        is_5 = n_3 != 2u;
-    }
-    return is_5;
-}
-
-/* Where sides are divided.
- * crates/atlas_search/src/cells.rt
- */
-SMALL uint32_t atlas_search_cells_middle(uint32_t first, uint32_t end) {
-    return core_int_u32_min(first + ((end - first) / 2u), 2u * first);
 }
 
 /* An entry, if it is one, hangs below another one, or a tag.
@@ -49443,12 +49493,39 @@ SMALL bool atlas_search_best_Best_ends_in(const atlas_search_Best *self, atlas_s
     return atlas_search_cells_Cell_is_beyond(cell, self->size, self->reach - 1u);
 }
 
-/* A call of its own for each fork that is entered. The cell comes by its four sides, since a whole one would go through memory.
- * crates/atlas_search/src/search.rt
+/* Whether a size is before the end of the widths, or before that of the heights.
+ * crates/atlas_search/src/cells.rt
  */
-PART void atlas_search_search_show_below_Slot(slice_Slot entries, const atlas_store_Slot *fork, atlas_search_Best *best, uint32_t left,
-        uint32_t right, uint32_t top, uint32_t bottom) {
-    atlas_search_search_show_halves_Slot(entries, fork, new_atlas_search_Cell(left, right, top, bottom), best);
+SMALL bool atlas_search_cells_Cell_is_before_end(atlas_search_Cell self, atlas_model_Size size, bool is_wide) {
+    bool is_5;
+    if (is_wide) {
+        is_5 = size.width < self.right;
+    } else {
+        is_5 = size.height < self.bottom;
+    }
+    return is_5;
+}
+
+/* A call of its own for each fork that is entered. The cell comes by its four sides, since a whole one would go through memory.
+ * crates/atlas_search/src/search/showing.rt
+ */
+PART void atlas_search_search_showing_show_below_Slot(slice_Slot entries, const atlas_store_Slot *fork, atlas_search_Best *best,
+        uint32_t left, uint32_t right, uint32_t top, uint32_t bottom) {
+    atlas_search_Cell cell_8;
+    atlas_search_Halves halves_9;
+    bool is_10;
+    atlas_search_Halves halves_11;
+    bool is_12;
+    cell_8 = new_atlas_search_Cell(left, right, top, bottom);
+    if (atlas_search_cells_Cell_is_cut_wide(cell_8)) {
+        halves_9 = atlas_search_cells_Cell_halves(cell_8, true);
+        is_10 = atlas_search_best_Best_may_fit_by(best, halves_9.low, true);
+        atlas_search_search_showing_show_halves_Slot(entries, fork, halves_9, is_10, best);
+    } else {
+        halves_11 = atlas_search_cells_Cell_halves(cell_8, false);
+        is_12 = atlas_search_best_Best_may_fit_by(best, halves_11.low, false);
+        atlas_search_search_showing_show_halves_Slot(entries, fork, halves_11, is_12, best);
+    }
 }
 
 /* Whether both sides of a size, and so much more, are before the first ones.
@@ -49661,14 +49738,17 @@ SMALL void core_slice_edits_mirror_Allocation(slice_Allocation_2 front, uint64_t
 }
 
 /* Shows a list of sizes that are larger than the request's, both sides, to a search. It may be enough to look at its first entry.
- * crates/atlas_search/src/search.rt
+ * crates/atlas_search/src/search/showing.rt
  */
-SMALL void atlas_search_search_show_larger_FreeBox(slice_FreeBox entries, atlas_search_Link top, atlas_search_Best *best) {
+SMALL void atlas_search_search_showing_show_larger_FreeBox(slice_FreeBox entries, atlas_search_Link top, atlas_search_Best *best) {
     const guillotiere_FreeBox *at_4;
     atlas_model_Rectangle rectangle_5;
     uint64_t n_6;
     atlas_search_Cell cell_7;
-    atlas_model_Size size_17;
+    atlas_search_Halves halves_8;
+    bool is_9;
+    atlas_model_Size size_19;
+    bool is_22;
     if (entries.len <= (uint64_t)top.number) {
         return;
     }
@@ -49680,27 +49760,30 @@ SMALL void atlas_search_search_show_larger_FreeBox(slice_FreeBox entries, atlas_
     }
     atlas_search_best_Best_look_larger(best, rectangle_5, n_6, top);
     if (guillotiere_simple_boxes_FreeBoxEntry_is_fork(at_4)) {
-        size_17 = atlas_search_cut_exact_size(rectangle_5);
-        cell_7 = atlas_search_cells_Cell_around(size_17);
+        size_19 = atlas_search_cut_exact_size(rectangle_5);
+        cell_7 = atlas_search_cells_Cell_around(size_19);
         if (atlas_search_best_Best_ends_in(best, cell_7, n_6)) {
             return;
         }
-        atlas_search_search_show_halves_FreeBox(entries, at_4, cell_7, best);
+        is_22 = atlas_search_cells_Cell_is_cut_wide(cell_7);
+        halves_8 = atlas_search_cells_Cell_halves(cell_7, is_22);
+        is_9 = atlas_search_best_Best_may_fit_in(best, halves_8.low);
+        atlas_search_search_showing_show_halves_FreeBox(entries, at_4, halves_8, is_9, best);
     }
 }
 
 /* Shows the entries of a heap with this top and of sizes of a cell to a search, but for those that can't be the best.
- * crates/atlas_search/src/search.rt
+ * crates/atlas_search/src/search/showing.rt
  */
-SMALL void atlas_search_search_show_within_FreeBox(slice_FreeBox entries, atlas_search_Link at, atlas_search_Cell cell,
+SMALL void atlas_search_search_showing_show_within_FreeBox(slice_FreeBox entries, atlas_search_Link at, atlas_search_Cell cell,
         atlas_search_Best *best) {
     const guillotiere_FreeBox *at_5;
     if (entries.len <= (uint64_t)at.number) {
         return;
     }
     at_5 = ((guillotiere_FreeBox *)entries.at + (uint64_t)at.number);
-    if (atlas_search_search_show_entry_FreeBox(at_5, at, best)) {
-        atlas_search_search_show_below_FreeBox(entries, at_5, best, cell.left, cell.right, cell.top, cell.bottom);
+    if (atlas_search_search_showing_show_entry_FreeBox(at_5, at, best)) {
+        atlas_search_search_showing_show_below_FreeBox(entries, at_5, best, cell.left, cell.right, cell.top, cell.bottom);
     }
 }
 
@@ -52674,11 +52757,25 @@ SMALL void core_mem_swap_Allocation(atlas_model_Allocation *x, atlas_model_Alloc
 }
 
 /* A call of its own for each fork that is entered. The cell comes by its four sides, since a whole one would go through memory.
- * crates/atlas_search/src/search.rt
+ * crates/atlas_search/src/search/showing.rt
  */
-PART void atlas_search_search_show_below_FreeBox(slice_FreeBox entries, const guillotiere_FreeBox *fork, atlas_search_Best *best,
+PART void atlas_search_search_showing_show_below_FreeBox(slice_FreeBox entries, const guillotiere_FreeBox *fork, atlas_search_Best *best,
         uint32_t left, uint32_t right, uint32_t top, uint32_t bottom) {
-    atlas_search_search_show_halves_FreeBox(entries, fork, new_atlas_search_Cell(left, right, top, bottom), best);
+    atlas_search_Cell cell_8;
+    atlas_search_Halves halves_9;
+    bool is_10;
+    atlas_search_Halves halves_11;
+    bool is_12;
+    cell_8 = new_atlas_search_Cell(left, right, top, bottom);
+    if (atlas_search_cells_Cell_is_cut_wide(cell_8)) {
+        halves_9 = atlas_search_cells_Cell_halves(cell_8, true);
+        is_10 = atlas_search_best_Best_may_fit_by(best, halves_9.low, true);
+        atlas_search_search_showing_show_halves_FreeBox(entries, fork, halves_9, is_10, best);
+    } else {
+        halves_11 = atlas_search_cells_Cell_halves(cell_8, false);
+        is_12 = atlas_search_best_Best_may_fit_by(best, halves_11.low, false);
+        atlas_search_search_showing_show_halves_FreeBox(entries, fork, halves_11, is_12, best);
+    }
 }
 
 /* Whether the left one of two entries comes first: it is there, and the right one isn't, or comes no earlier.
