@@ -540,8 +540,8 @@ bool guillotiere_simple_is_empty(const guillotiere_simple *simple);
 GUILLOTIERE_CHECKED
 uint32_t guillotiere_paged_new(int32_t width, int32_t height, uint32_t most, guillotiere_paged *paged);
 
-/* The same with these options, of the atlas of each page. DONE; BAD_CALL if a side isn't above 0 or the options aren't
- * valid; MEMORY; OCCUPIED, before all others, if the handle holds one already. */
+/* Makes a paged atlas as guillotiere_paged_new does, the atlas of each page with these options. DONE; BAD_CALL if a side
+ * isn't above 0 or the options aren't valid; MEMORY; OCCUPIED, before all others, if the handle holds one already. */
 GUILLOTIERE_CHECKED
 uint32_t guillotiere_paged_with_options(int32_t width, int32_t height, const guillotiere_options *options, uint32_t most,
                                         guillotiere_paged *paged);

@@ -2,7 +2,7 @@
 use Rattle.std.proofs.Common.{◌≡◌, ℕ, ◌+◌, ◌<◌, List, [], ◌∷◌, ◌++◌, Option, Some, None, IfSome, length, drop, get_or, refl, sym, ◌∙◌, ap}
 use Rattle.std.proofs.Common.{subst, append_assoc, append-nil, add-one, drop-cons}
 use Rattle.std.specs.Io.KnownBytes.{Appends}
-use Rattle.atlas_words.proofs.Known.{Appends_none, Appends_twice}
+use Rattle.atlas_words.proofs.Known.{Appends_twice}
 use Rattle.atlas_words.specs.Devices.{HoldsBytes}
 use Rattle.atlas_bench.specs.declared.answers.Answers.{Answers}
 use Rattle.atlas_bench.specs.declared.workload.Job.{Job}

@@ -2,6 +2,7 @@
 use Rattle.std.proofs.Common.{ℕ, ℤ, ◌+◌, ◌≤◌, ◌≡◌, min, Bool, cond, List, [], ◌∷◌, ◌++◌, None, Some, refl, sym, ap, ◌∙◌, arith, length}
 use Rattle.std.proofs.Common.{append_assoc}
 use Rattle.std.specs.Cmp.{IsEquivalence}
+use Rattle.guillotiere.specs.Pages.{page_sizes}
 use Rattle.atlas_cache.specs.declared.changes.CacheChange.{CacheChange}
 use Rattle.atlas_cache.specs.declared.changes.CacheChange.TheVariants.{Evicted}
 use Rattle.atlas_cache.specs.declared.options.CacheOptions.{CacheOptions}
@@ -11,7 +12,6 @@ use Rattle.atlas_cache.specs.Caches.{CacheState, shown, HaveOwnKeys}
 use Rattle.atlas_cache.specs.Changes.{all_changed, changed, picture_of, ShowsSame}
 use Rattle.atlas_cache.specs.Clearing.{TellsChanges}
 use Rattle.atlas_cache.specs.Reserving.{UseAtMost, KeepsReady}
-use Rattle.atlas_cache.specs.Rooms.{page_sizes}
 use Rattle.atlas_cache.specs.Walking.{first_entry}
 use Rattle.atlas_entries.proofs.AppendedLists.{append-none}
 use Rattle.atlas_cache.proofs.BlankLemmas.{length-less}

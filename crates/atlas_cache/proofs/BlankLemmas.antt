@@ -40,13 +40,6 @@ module _ {K : Type 0} where
   }
 
   module _ (P : Entry K → Type 0) where
-    pub each-lying : (es : List (Entry K)) → AllByRecursion P es → AllByRecursion P (lying es)
-    each-lying [] all = tt
-    each-lying (e ∷ es) all = elim (cases_Bool (is_blank e)) [
-      | inl blank ↦ rw blank (each-lying es all.1)
-      | inr lies ↦ rw lies (all.0, each-lying es all.1)
-    ]
-
     pub each-where : (es : List (Entry K)) → AllByRecursion P (lying es)
         → AllByRecursion (λ e. is_blank e ≡ false → P e) es
     each-where [] all = tt

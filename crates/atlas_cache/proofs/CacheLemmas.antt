@@ -2,11 +2,11 @@
 use Rattle.std.proofs.Common.{ℕ, ℤ, ◌≡◌, inl, inr, false, ◌≤◌, List, ◌∷◌, ◌++◌, length, None, Some, IsSome, refl, sym, ◌∙◌, arith}
 use Rattle.std.proofs.lemmas.{Bool.{cases_Bool}}
 use Rattle.std.proofs.lemmas.Bool.{false≢true}
-use Rattle.std.proofs.lemmas.Option.{slice_get_past}
 use Rattle.guillotiere.specs.declared.Size.{Size}
 use Rattle.guillotiere.specs.Pages.{rectangle_on, LeavesNoBoxOn}
 use Rattle.guillotiere.specs.Pixels.{size_of}
 use Rattle.guillotiere.specs.Stored.{AtlasValue}
+use Rattle.guillotiere.proofs.Callers.{no_rectangle_off}
 use Rattle.atlas_entries.specs.declared.entries.Entry.{Entry}
 use Rattle.atlas_cache.specs.declared.options.CacheOptions.{CacheOptions}
 use Rattle.atlas_cache.specs.Asking.{bordered, AreUsable, CanStand}
@@ -17,18 +17,6 @@ use Rattle.atlas_cache.proofs.BlankLemmas.{parts-blank, parts-lying}
 use Rattle.atlas_cache.proofs.HoldingLemmas.{left, to_front, used_at}
 use Rattle.atlas_entries.proofs.AppendedLists.{each-here, each-without}
 use Rattle.atlas_cache.proofs.ListLemmas.{falls-without, parts, Parts}
-
--- Behind the last page nothing is live, and nothing has to be freed there.
-pub off_pages : (pages : List AtlasValue) (page id : ℕ) → length pages ≤ page → rectangle_on pages page id ≡ None
-off_pages pages page id past = let none = slice_get_past pages page past in rw none refl
-
-pub pages_stay : (pages : List AtlasValue) (page id : ℕ) → length pages ≤ page → LeavesNoBoxOn pages pages page id
-pages_stay pages page id past = record {
-  leaves = λ s t was is. absurd (let some : None ≡ Some s = sym (slice_get_past pages page past) ∙ was in cc);
-  others = λ k other. refl;
-  gone = off_pages pages page id past;
-  same = λ k i other. refl;
-}
 
 module _ {K : Type 0} where
   -- What a cache keeps, of its parts.
@@ -93,7 +81,7 @@ module _ {K : Type 0} where
           let q = parts-lying e es rest lies p in
           let live : rectangle_on pages e.page e.id ≡ Some e.rectangle =
           each-here (λ (f : Entry K). rectangle_on pages f.page f.id ≡ Some f.rectangle) q.newer e q.older (rw q.was at held.live) in
-          absurd (let some : None ≡ Some e.rectangle = sym (off_pages pages e.page e.id past) ∙ live in cc)
+          absurd (let some : None ≡ Some e.rectangle = sym (no_rectangle_off pages e.page e.id past) ∙ live in cc)
     ]
 
   pub live-at : (pages : List AtlasValue) (n : ℕ) (es : List (ℕ × Entry K)) (e : Entry K)

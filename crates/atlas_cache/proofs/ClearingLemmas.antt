@@ -5,6 +5,7 @@ use Rattle.std.proofs.Common.{inl, inr, ◌⊎◌}
 use Rattle.std.proofs.lemmas.Bool.Decides.{eqb_tells}
 use Rattle.std.specs.List.{AllByRecursion, IsDistinct}
 use Rattle.guillotiere.specs.Boxes.{Box}
+use Rattle.guillotiere.specs.Pages.{page_sizes, size_of_page}
 use Rattle.guillotiere.specs.Stored.{AtlasValue, state_of}
 use Rattle.guillotiere.specs.States.{IsSound}
 use Rattle.atlas_cache.specs.declared.changes.CacheChange.{CacheChange}
@@ -15,7 +16,7 @@ use Rattle.atlas_entries.specs.declared.entries.Entry.{Entry}
 use Rattle.atlas_cache.specs.Caches.{entries_of, shown, AreBordered, CacheState, HoldsEntries, IsBordered, IsFull}
 use Rattle.atlas_cache.specs.Changes.{ClearsBox, EvictsIn, IsCleared, LetsGo}
 use Rattle.atlas_cache.specs.Placing.{FreesOn}
-use Rattle.atlas_cache.specs.Rooms.{page_sizes, size_of_page, RoomsState}
+use Rattle.atlas_cache.specs.Rooms.{RoomsState}
 use Rattle.atlas_cache.specs.Vacating.{inside_count, lies_in, state_with, without_inside}
 use Rattle.atlas_entries.specs.Entries.{entry_at, is_blank, lying, numbers, without_number, IsNumber, Table}
 use Rattle.atlas_entries.specs.Orders.{oldest_of}

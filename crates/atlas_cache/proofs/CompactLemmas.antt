@@ -8,7 +8,7 @@ use Rattle.std.specs.Cmp.{IsEquivalence}
 use Rattle.std.specs.List.{AllByRecursion}
 use Rattle.guillotiere.specs.declared.Rectangle.{Rectangle}
 use Rattle.guillotiere.specs.Boxes.{box_sides, Sides}
-use Rattle.guillotiere.specs.Pages.{AddsBoxOn, LeavesNoBoxOn}
+use Rattle.guillotiere.specs.Pages.{page_sizes, AddsBoxOn, LeavesNoBoxOn}
 use Rattle.guillotiere.specs.Pixels.{box_of}
 use Rattle.guillotiere.specs.Replies.{IsExact}
 use Rattle.guillotiere.specs.Stored.{AtlasValue}
@@ -19,7 +19,6 @@ use Rattle.atlas_cache.specs.Caches.{entries_of, entry_for, shown, FramesFall, H
 use Rattle.atlas_cache.specs.Changes.{all_changed, changed, Picture}
 use Rattle.atlas_cache.specs.Compacting.{pixels_moved, pixels_of, told_move, MoveAhead, MovesAhead}
 use Rattle.atlas_cache.specs.Relocating.{keys_of}
-use Rattle.atlas_cache.specs.Rooms.{page_sizes}
 use Rattle.atlas_cache.proofs.BlankLemmas.{lying-append, lying-here}
 use Rattle.atlas_cache.proofs.HoldingLemmas.{holders-append, joined, left, to_front, IsLiveOn}
 use Rattle.atlas_cache.proofs.KeyLemmas.{gone, here}

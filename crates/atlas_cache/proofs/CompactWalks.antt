@@ -19,7 +19,7 @@ use Rattle.atlas_cache.specs.Compacting.{MoveAhead, MovesSome, StaysThere, Visit
 use Rattle.atlas_cache.specs.Rooms.{RoomsState}
 use Rattle.atlas_cache.proofs.CompactLemmas.{chain_more, pixels_more, told_more}
 use Rattle.atlas_cache.proofs.RelocateLemmas.{moved-at}
-use Rattle.atlas_cache.proofs.WalkLemmas.{at-number, entries-append}
+use Rattle.atlas_cache.proofs.WalkLemmas.{at-number, entries-append, no-first}
 
 module _ {K : Type 0} (last pixels : ℕ) where
   -- Where less may move, and nothing has room that had none, an entry has to stay still.
@@ -129,21 +129,9 @@ module _ {K : Type 0} (last pixels : ℕ) where
       reserved = w.reserved;
     }
 
-    no_first : (rest : List (ℕ × Entry K)) → None ≡ newest_of (numbers rest) → rest ≡ []
-    no_first [] is = refl
-    no_first (x ∷ xs) is = absurd (let some : None ≡ Some x.0 = is in cc)
-
-    no_length : (rest : List (ℕ × Entry K)) → length rest ≡ 0 → rest ≡ []
-    no_length [] is = refl
-    no_length (x ∷ xs) is = absurd (omega (arith, is))
-
     pub none_left : Walk moved None passed before now rooms left entries others
         → MovesSome last pixels (Ok moved) before now rooms left entries others
-    none_left w = ended None w (no_first w.rest w.first)
-
-    pub all_visited : (next : Option ℕ) → Walk moved next passed before now rooms left entries others
-        → length entries.entries ≤ passed → MovesSome last pixels (Ok moved) before now rooms left entries others
-    all_visited next w le = ended next w (no_length w.rest (omega (arith, w.count, le)))
+    none_left w = ended None w (no-first w.rest w.first)
 
     -- The entry that comes next.
     pub record Upcoming (n : ℕ) (w : Walk moved (Some n) passed before now rooms left entries others) : Type 0 where

@@ -1,5 +1,5 @@
 -- An insertion, as it counts the evictions that fragmentation forced.
-use Rattle.std.proofs.Common.{ℕ, Bool, true, false, ◌≡◌, ◌<◌, ◌+◌, ◌-◌, min, if◌then◌else◌, arith, refl, sym, ap, subst, ◌∙◌, inl, inr}
+use Rattle.std.proofs.Common.{ℕ, true, false, ◌≡◌, ◌+◌, ◌-◌, min, sym, ap, subst, ◌∙◌, inl, inr}
 use Rattle.std.specs.Prelude.{List, [], ◌∷◌, Result, Ok, Err}
 use Rattle.std.specs.List.{list_any}
 use Rattle.guillotiere.specs.Boxes.{Box}
@@ -13,10 +13,6 @@ use Rattle.atlas_cache.specs.declared.inserted.Inserted.TheVariants.{Placed, Hel
 use Rattle.atlas_cache.specs.Caches.{CacheState}
 use Rattle.atlas_cache.specs.Rooms.{has_area}
 use Rattle.atlas_cache.specs.Changes.{forced_after, ClearsBox, Does, Inserts, InsertsUncounted, Leads, MayVacate}
-
-rises_by : (b : Bool) (n m k : ℕ) → k ≡ (if b then m else n) → n < k → b ≡ true
-rises_by true n m k is more = refl
-rises_by false n m k is more = absurd (omega (arith, is, more))
 
 abbrev forced_in : Counts → ℕ
 forced_in n = n.forced
@@ -98,10 +94,3 @@ module _ {K : Type 0} where
   counted_else asked key size result before after s t ins has =
       counted asked key size result before after s t t.counts.forced ins
       (rw has (inserts_forced asked key size result before after s t ins))
-
-  -- The count rises only where some page had the area.
-  pub rises : (asked : Size) (s t : CacheState K) → t.counts.forced ≡ forced_after asked s t → s.counts.forced < t.counts.forced
-      → list_any (has_area asked) s.pages ≡ true
-  rises asked s t is more =
-      rises_by (list_any (has_area asked) s.pages) s.counts.forced
-      (min (s.counts.forced + (t.counts.evictions - s.counts.evictions)) 18446744073709551615) t.counts.forced is more

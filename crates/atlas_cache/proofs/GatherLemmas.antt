@@ -22,7 +22,7 @@ use Rattle.atlas_cache.specs.Repacking.{NamesPage}
 use Rattle.atlas_cache.proofs.HoldingLemmas.{IsLiveOn}
 use Rattle.atlas_entries.proofs.AppendedLists.{append-none}
 use Rattle.atlas_cache.proofs.RelocateLemmas.{filter_map-last}
-use Rattle.atlas_cache.proofs.WalkLemmas.{at-number, entries-append}
+use Rattle.atlas_cache.proofs.WalkLemmas.{at-number, entries-append, no-first, no-length}
 
 module _ {K : Type 0} (page : ℕ) where
   abbrev as_held : Entry K → Allocation
@@ -47,14 +47,6 @@ module _ {K : Type 0} (page : ℕ) where
       → held ≡ held_on page (entries_of done) → held ≡ held_on page (entries_of all)
   finished all done rest held none is told =
       let whole : all ≡ done = is ∙ ap (λ r. done ++ r) none ∙ append-none done in rw whole told
-
-  no-first : (rest : List (ℕ × Entry K)) → None ≡ newest_of (numbers rest) → rest ≡ []
-  no-first [] is = refl
-  no-first (x ∷ xs) is = absurd (let some : None ≡ Some x.0 = is in cc)
-
-  no-length : (rest : List (ℕ × Entry K)) → length rest ≡ 0 → rest ≡ []
-  no-length [] is = refl
-  no-length (x ∷ xs) is = absurd (omega (arith, is))
 
   pub gathered-none : (all : List (ℕ × Entry K)) (passed : ℕ) (held : List Allocation) → Gathered all None passed held
       → held ≡ held_on page (entries_of all)

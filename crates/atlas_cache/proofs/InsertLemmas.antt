@@ -13,6 +13,7 @@ use Rattle.atlas_cache.specs.Caches.{CacheState, FramesFall}
 use Rattle.atlas_cache.specs.Changes.{ClearsBox, Does, InsertsUncounted, InsertsBlank, Leads, MayVacate}
 use Rattle.guillotiere.specs.Boxes.{Box}
 use Rattle.atlas_cache.proofs.LoopLemmas.{does_options}
+use Rattle.atlas_cache.proofs.VacatedLemmas.{cleared-reserved}
 
 module _ {K : Type 0} where
   module _ (asked : Size) (key : K) (size : Size) (result : Result Inserted CacheError) (before after : List (CacheChange K))
@@ -97,22 +98,12 @@ module _ {K : Type 0} where
   led_reserved asked (c ∷ cs) s t leads =
       led_reserved asked cs leads.0 t leads.3 ∙ does_reserved c s leads.0 leads.2
 
-  cleared_reserved : (page : ℕ) (box : Box) (cs : List (CacheChange K)) (s t : CacheState K) → ClearsBox page box cs s t
-      → t.reserved ≡ s.reserved
-  cleared_reserved page box [] s t same = ap (λ (u : CacheState K). u.reserved) (sym same)
-  cleared_reserved page box (PageAdded p size ∷ cs) s t clears = absurd clears.1
-  cleared_reserved page box (PageGrown p size ∷ cs) s t clears = absurd clears.1
-  cleared_reserved page box (Evicted key place ∷ cs) s t clears =
-      cleared_reserved page box cs clears.0 t clears.2 ∙ clears.1.goes.reserved
-  cleared_reserved page box (Moved key from to ∷ cs) s t clears = absurd clears.1
-  cleared_reserved page box (PageRemoved p ∷ cs) s t clears = absurd clears.1
-
   all_reserved : (asked : Size) (made more : List (CacheChange K)) (s mid t : CacheState K) → Leads asked made s mid
       → MayVacate asked more mid t → t.reserved ≡ s.reserved
   all_reserved asked made more s mid t leads (inl none) =
       ap (λ (u : CacheState K). u.reserved) (sym none.1) ∙ led_reserved asked made s mid leads
   all_reserved asked made more s mid t leads (inr v) =
-      cleared_reserved v.page v.box more mid t v.clears ∙ led_reserved asked made s mid leads
+      cleared-reserved v.page v.box more mid t v.clears ∙ led_reserved asked made s mid leads
 
   -- An insert takes at most one of the entries in reserve.
   pub inserts_take : (asked : Size) (key : K) (size : Size) (result : Result Inserted CacheError)

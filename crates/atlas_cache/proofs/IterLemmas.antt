@@ -9,7 +9,7 @@ use Rattle.atlas_cache.specs.Caches.{entries_of}
 use Rattle.atlas_entries.specs.Entries.{entry_at, numbers, IsNumber}
 use Rattle.atlas_entries.specs.Orders.{newest_of}
 use Rattle.atlas_cache.specs.Walking.{keyed, oldest_entries, AreToCome}
-use Rattle.atlas_cache.proofs.WalkLemmas.{at-number, numbers-split, Split}
+use Rattle.atlas_cache.proofs.WalkLemmas.{at-number, numbers-split, Split, no-first}
 
 module _ {K : Type 0} where
   oldest-split : (newer older : List (ℕ × Entry K)) (left : ℕ) → left ≡ length older
@@ -18,11 +18,7 @@ module _ {K : Type 0} where
       drop_at newer older (length (newer ++ older) - left) (omega (arith, is, length-append newer older))
 
   pub none-to_come : (left : ℕ) (es : List (ℕ × Entry K)) → AreToCome None left es → oldest_entries left es ≡ []
-  none-to_come left es h = go (oldest_entries left es) h.first
-    where
-      go : (xs : List (ℕ × Entry K)) → None ≡ newest_of (numbers xs) → xs ≡ []
-      go [] is = refl
-      go (x ∷ xs) is = absurd (none-some x.0 is)
+  none-to_come left es h = no-first (oldest_entries left es) h.first
 
   -- The entry that comes next, with the others around it.
   pub record Turn (n left : ℕ) (es : List (ℕ × Entry K)) : Type 0 where

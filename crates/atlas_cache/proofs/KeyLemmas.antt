@@ -97,8 +97,3 @@ module _ {K : Type 0} (eq : K → K → Bool) where
       | inl same ↦ let found = rw same at none in absurd (let some : Some f ≡ None = found in cc)
       | inr apart ↦ let rest = rw apart at none in (rw named apart, differ_named e k named es rest)
     ]
-
-    pub own_joined : (e : Entry K) (k : K) → e.key ≡ k → (es : List (Entry K)) → entry_for eq k es ≡ None
-        → HaveOwnKeys eq es
-        → HaveOwnKeys eq (e ∷ es)
-    own_joined e k named es none own = (differ_named e k named es none, own)

@@ -8,7 +8,7 @@ use Rattle.atlas_entries.specs.Entries.{entry_at, is_blank, lying, numbers, with
 use Rattle.atlas_entries.specs.Orders.{oldest_of}
 use Rattle.atlas_cache.proofs.BlankLemmas.{lying-past}
 use Rattle.atlas_cache.proofs.RelocateLemmas.{without-at}
-use Rattle.atlas_cache.proofs.WalkLemmas.{at-number, entries-append, numbers-append}
+use Rattle.atlas_cache.proofs.WalkLemmas.{at-number, entries-append, numbers-append, no-length}
 
 module _ {K : Type 0} where
   -- The entries up to one are still to be looked at; those that were used before it are blank.
@@ -42,10 +42,6 @@ module _ {K : Type 0} where
   no-last [] is = refl
   no-last (x ∷ []) is = absurd (let some : None ≡ Some x.0 = is in cc)
   no-last (x ∷ (y ∷ xs)) is = absurd (let none = no-last (y ∷ xs) is in cc)
-
-  pub no-length : (xs : List (ℕ × Entry K)) → length xs ≡ 0 → xs ≡ []
-  no-length [] is = refl
-  no-length (x ∷ xs) is = absurd (omega (arith, is))
 
   all-blank : (es newer older : List (ℕ × Entry K)) → es ≡ newer ++ older → newer ≡ [] → AreBlank older
       → lying (entries_of es) ≡ []

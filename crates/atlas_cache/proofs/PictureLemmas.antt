@@ -1,5 +1,6 @@
 -- What a caller makes of changes.
 use Rattle.guillotiere.specs.Boxes.{Box}
+use Rattle.guillotiere.specs.Pages.{page_sizes}
 use Rattle.std.proofs.Common.{ℕ, ◌≡◌, Bool, true, false, cond, List, [], ◌∷◌, ◌++◌, Option, None, Some, Result, Ok, Err, option_map, refl}
 use Rattle.std.proofs.Common.{sym, ap, subst, ◌∙◌, slice_set, take}
 use Rattle.std.proofs.Common.{inl, inr}
@@ -17,7 +18,6 @@ use Rattle.atlas_cache.specs.Caches.{CacheState, entry_for, place_for, shown, Ha
 use Rattle.atlas_cache.specs.Changes.{Picture, all_changed, changed, picture_of, placed, Adds, ClearsBox, Does, Evicts, InsertsUncounted}
 use Rattle.atlas_cache.specs.Changes.{InsertsBlank, Leads, LooksSame, MayVacate, Removes, ShowsSame, Uses}
 use Rattle.atlas_cache.specs.Telling.{Tells}
-use Rattle.atlas_cache.specs.Rooms.{page_sizes}
 use Rattle.atlas_cache.proofs.KeyLemmas.{first, fronted, gone, here, own_without}
 use Rattle.atlas_entries.proofs.AppendedLists.{append-none}
 

@@ -9,6 +9,7 @@ use Rattle.atlas_entries.specs.declared.error.CacheError.TheVariants.{Memory, Sl
 use Rattle.atlas_cache.specs.declared.inserted.Inserted.{Inserted}
 use Rattle.atlas_cache.specs.declared.inserted.Inserted.TheVariants.{Placed, Held, FrameFull, NeverFits}
 use Rattle.atlas_cache.specs.declared.options.CacheOptions.{CacheOptions}
+use Rattle.guillotiere.specs.Pages.{page_sizes}
 use Rattle.guillotiere.specs.Stored.{AtlasValue}
 use Rattle.atlas_cache.specs.Caches.{CacheState, IsFull}
 use Rattle.atlas_cache.specs.Changes.{InsertsBlank}
@@ -16,7 +17,6 @@ use Rattle.atlas_cache.specs.Clearing.{Trims}
 use Rattle.atlas_entries.specs.Limits.{IsWithoutNumber}
 use Rattle.atlas_cache.specs.Reserving.{ready_inserts, AllowSlots, HasReserves, HaveSlots, IsReadyFor, IsShortOfSlots, KeepsPageSizes}
 use Rattle.atlas_cache.specs.Reserving.{KeepsReady, KeepsReadyButOne, UseAtMost}
-use Rattle.atlas_cache.specs.Rooms.{page_sizes}
 use Rattle.atlas_cache.proofs.RoomLemmas.KeptPages.{as_many}
 use Rattle.atlas_cache.proofs.RoomLemmas.PageReserves.{allowed_left, none_short, none_used, slots_left}
 use Rattle.atlas_cache.proofs.RoomLemmas.ReadySlots.{allow_ready, have_ready, most_ready, ready_had, ready_left}

@@ -14,7 +14,7 @@ use Rattle.atlas_entries.specs.Entries.{entry_at, moved, numbers, without_number
 use Rattle.atlas_entries.specs.Orders.{newest_of}
 use Rattle.atlas_cache.specs.Relocating.{become, numbered_as, renewed_by, told_as, told_of}
 use Rattle.atlas_entries.proofs.AppendedLists.{append-none, each-here}
-use Rattle.atlas_cache.proofs.WalkLemmas.{at-number, entries-append, numbers-append}
+use Rattle.atlas_cache.proofs.WalkLemmas.{at-number, entries-append, numbers-append, no-first, no-length}
 
 module _ {X Y : Type 0} (f : X → Option Y) where
   pub filter_map-last : (xs : List X) (x : X) → filter_map f (xs ++ x ∷ []) ≡ filter_map f xs ++ cons_option (f x) []
@@ -133,14 +133,6 @@ module _ {K : Type 0} where
               ∙ settled-entries done ∙ ap (λ xs. filter_map (become page (renewed_by cs)) (entries_of xs)) (sym all);
           told = rw all told;
         }
-
-    no-first : (rest : List (ℕ × Entry K)) → None ≡ newest_of (numbers rest) → rest ≡ []
-    no-first [] is = refl
-    no-first (x ∷ xs) is = absurd (let some : None ≡ Some x.0 = is in cc)
-
-    no-length : (rest : List (ℕ × Entry K)) → length rest ≡ 0 → rest ≡ []
-    no-length [] is = refl
-    no-length (x ∷ xs) is = absurd (omega (arith, is))
 
     pub walked-none : (was now : List (ℕ × Entry K)) (count : ℕ) (before after : List (CacheChange K)) (spare : ℕ)
         → Walked was now None count before after spare → Finished was now before after

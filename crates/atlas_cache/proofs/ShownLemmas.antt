@@ -1,5 +1,5 @@
 -- What is shown as freed on all pages.
-use Rattle.std.proofs.Common.{◌≡◌, ◌<◌, ◌≤◌, ◌∙◌, ◌∷◌, ◌+◌, false, true, ℕ, Bool, List, Some, length, refl, sym, subst, slice_get}
+use Rattle.std.proofs.Common.{◌≡◌, ◌<◌, ◌≤◌, ◌∙◌, ◌∷◌, false, true, ℕ, Bool, List, Some, length, refl, sym, subst, slice_get}
 use Rattle.std.proofs.Common.{slice_set, inl, inr, arith}
 use Rattle.std.proofs.lemmas.{Bool.{ne_eqb}, List.{length-set, with_items_is}, Option.{same_Some, slice_get_within}}
 use Rattle.std.proofs.lemmas.Bool.Decides.{eqb_tells}
@@ -27,31 +27,6 @@ module _ {Z : Type 0} where
       → AreShownOn pages page (with_items own marks).items ids
   written {pages} {page} {ids} own {marks} many shown =
       subst (λ (xs : List Bool). AreShownOn pages page xs ids) (sym (with_items_is own marks many)) shown
-
-  pub none-below : (pages : List AtlasValue) (marks : List (Vec Bool Z)) → length pages ≤ length marks
-      → AreShownBelow pages marks 0
-  none-below pages marks many = record { many = many; each = λ page own at less. absurd (omega (arith, less)) }
-
-  pub one-more : (pages : List AtlasValue) (marks : List (Vec Bool Z)) (own : Vec Bool Z) (end : ℕ)
-      → AreShownBelow pages marks end → end < length pages → AreShownOn pages end own.items (λ (id : ℕ). false)
-      → AreShownBelow pages (slice_set marks end own) (end + 1)
-  one-more pages marks own end was within shown =
-      record { many = rw (length-set marks end own) was.many; each = each }
-    where
-      each : (page : ℕ) (mine : Vec Bool Z) → slice_get (slice_set marks end own) page ≡ Some mine → page < end + 1
-          → AreShownOn pages page mine.items (λ (id : ℕ). false)
-      each page mine at less = elim (eqb_tells page end) [
-        | inl same ↦
-            let many = was.many in
-            let is = same_Some own mine
-            (sym (slice_get-set_same marks end own (omega (arith, within, many))) ∙ rw same.1 at at) in
-            rw (same.1, ← is) shown
-        | inr other ↦
-            was.each page mine (sym (slice_get-set_other marks end page own other.1) ∙ at) (before page end less other.1)
-      ]
-        where
-          before : (a b : ℕ) → a < b + 1 → (a ≡ b → ⊥) → a < b
-          before a b less other = grind (arith, less, other)
 
 module _ {K Z : Type 0} where
   -- One more entry is shown, on its page.

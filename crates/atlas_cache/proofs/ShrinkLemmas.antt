@@ -7,21 +7,20 @@ use Rattle.std.specs.List.{AllByRecursion}
 use Rattle.std.proofs.lemmas.List.{take_more, take-map}
 use Rattle.std.proofs.lemmas.Option.{slice_get_cases}
 use Rattle.std.proofs.Math.Seq.{get_or-append_seam, take-append_seam, take-length}
-use Rattle.guillotiere.specs.Pages.{rectangle_on, HasSameRectangles}
+use Rattle.guillotiere.specs.Pages.{page_sizes, rectangle_on, size_of_page, HasSameRectangles}
 use Rattle.guillotiere.specs.Pixels.{rectangle_of}
 use Rattle.guillotiere.specs.States.{live_in}
 use Rattle.guillotiere.specs.Stored.{AtlasValue, state_of}
 use Rattle.guillotiere.specs.Trees.{Grant}
-use Rattle.guillotiere.proofs.Callers.{page_added}
+use Rattle.guillotiere.proofs.Callers.{page_added, last_there}
 use Rattle.atlas_cache.specs.declared.changes.CacheChange.{CacheChange}
 use Rattle.atlas_cache.specs.declared.changes.CacheChange.TheVariants.{PageRemoved}
 use Rattle.atlas_entries.specs.declared.entries.Entry.{Entry}
 use Rattle.atlas_cache.specs.declared.options.CacheOptions.{CacheOptions}
 use Rattle.atlas_cache.specs.Caches.{CacheState, holders, HoldsEntries}
 use Rattle.atlas_cache.specs.Changes.{all_changed, changed, picture_of, KeepsEntries, ShowsSame}
-use Rattle.atlas_cache.specs.Clearing.{TellsChanges}
 use Rattle.atlas_entries.specs.Entries.{lying}
-use Rattle.atlas_cache.specs.Rooms.{page_sizes, rooms_of, size_of_page, IsNothingLive, KeepsRooms}
+use Rattle.atlas_cache.specs.Rooms.{rooms_of, IsNothingLive, KeepsRooms}
 use Rattle.atlas_cache.specs.Shrinking.{all_removed, pages_in_use, DropsIdle, DropsPage, IsLastInUse, Shrinks}
 use Rattle.atlas_cache.proofs.HoldingLemmas.{id_cases}
 use Rattle.atlas_entries.proofs.AppendedLists.{append-none}
@@ -39,10 +38,6 @@ still_there : {X : Type 0} (xs ys : List X) (k : ℕ) (x : X) → slice_get xs k
 still_there [] ys k x is = absurd (let none : None ≡ Some x = is in cc)
 still_there (y ∷ xs) ys zero x is = is
 still_there (y ∷ xs) ys (suc k) x is = still_there xs ys k x is
-
-last_there : {X : Type 0} (xs : List X) (x : X) → slice_get (xs ++ x ∷ []) (length xs) ≡ Some x
-last_there [] x = refl
-last_there (y ∷ xs) x = last_there xs x
 
 -- The pages that are left are pages of the cache.
 pub rooms_left : (o : CacheOptions) (pages : List AtlasValue) (last : AtlasValue)
@@ -80,10 +75,6 @@ in_use pages n a long is used rest last was idle =
     let same : a ≡ last = is ∙ ap (λ k. get_or pages k a) size ∙ ap (λ xs. get_or xs (length rest) a) was
     ∙ get_or-append_seam rest last [] a in
     used (ap (λ p. live_in (state_of p)) same ∙ idle)
-
-pub none_in_use : (pages : List AtlasValue) → length pages ≡ 0 → IsLastInUse pages
-none_in_use pages none rest last was idle =
-    let both = ap length was in omega (arith, both, none, length-append rest (last ∷ []))
 
 -- No rectangle is another one where an idle page goes.
 pub drops_same : (page : ℕ) (old new : List AtlasValue) → DropsIdle page old new → HasSameRectangles old new
@@ -210,8 +201,3 @@ module _ {K : Type 0} where
       listed = h.listed;
       keeps = h.keeps;
     }
-
-    pub shrunk_told : (before after : List (CacheChange K)) (s t : CacheState K) → Gone eq before after s t
-        → TellsChanges eq before after s t
-    shrunk_told before after s t h =
-        record { made = all_removed (length t.pages) h.gone; listed = h.listed; shows = h.shows }

@@ -8,12 +8,13 @@ use Rattle.std.proofs.lemmas.Bool.Decides.{eqb_tells}
 use Rattle.std.proofs.lemmas.List.{length-map}
 use Rattle.std.proofs.lemmas.Option.{slice_get_within}
 use Rattle.std.specs.List.{AllByRecursion}
+use Rattle.std.proofs.lemmas.Bool.{lt-ltb, eqb-true}
 use Rattle.guillotiere.specs.declared.Rectangle.{Rectangle}
 use Rattle.guillotiere.specs.declared.Size.{Size}
 use Rattle.guillotiere.specs.Boxes.{Box, Fits, Sides, IsPositive, whole_box}
 use Rattle.guillotiere.specs.Changes.{release}
 use Rattle.guillotiere.specs.Choice.{rounded, HasNoRoom, HasRoom, Options}
-use Rattle.guillotiere.specs.Pages.{NoneHasRoomBelow}
+use Rattle.guillotiere.specs.Pages.{size_of_page, NoneHasRoomBelow}
 use Rattle.guillotiere.specs.Pixels.{options_of, rectangle_of, sides_of, size_of}
 use Rattle.guillotiere.specs.States.{after_freeing, free_in, live_in, IsSound, State}
 use Rattle.guillotiere.specs.Stored.{AtlasValue, state_of}
@@ -31,7 +32,7 @@ use Rattle.atlas_cache.specs.Caches.{has_id, holders, CacheState, HasNoPageFor, 
 use Rattle.atlas_cache.specs.Changes.{Does, IsExhausted, Leads}
 use Rattle.atlas_cache.specs.Vacating.{idle_on, HasNoRoomWithout}
 use Rattle.atlas_entries.specs.Entries.{is_blank, lying, no_page}
-use Rattle.atlas_cache.specs.Rooms.{rooms_of, size_of_page, KeepsRooms}
+use Rattle.atlas_cache.specs.Rooms.{rooms_of, KeepsRooms}
 use Rattle.atlas_cache.proofs.RoomLemmas.KeptPages.{page_at}
 use Rattle.atlas_entries.proofs.AppendedLists.{each-without}
 
@@ -45,17 +46,8 @@ none-shown asked pages o kept none page v is room =
     none page v (slice_get_within pages page v is) is
     (subst (λ (free : List Box). HasRoom free (state_of v).options (sides_of asked)) same room)
 
-less-true : (a b : ℕ) → a < b → ltb a b ≡ true
-less-true a b less = grind (arith, less)
-
 same-false : (a b : ℕ) → a ≡ b → ltb a b ≡ false
 same-false a b same = grind (arith, same)
-
-eqb-is : (a b : ℕ) → eqb a b ≡ true → a ≡ b
-eqb-is a b is = elim (eqb_tells a b) [
-  | inl same ↦ same.1
-  | inr differ ↦ absurd (let t : false ≡ true = sym differ.0 ∙ is in cc)
-]
 
 eqb-not : (a b : ℕ) → (a ≡ b → ⊥) → eqb a b ≡ false
 eqb-not a b other = elim (eqb_tells a b) [
@@ -70,7 +62,7 @@ module _ {K : Type 0} where
   idle-none frame page [] there used k = refl
   idle-none frame page (e ∷ es) there used k = elim (cases_Bool (is_blank e)) [
     | inl blank ↦
-        let other = eqb-not e.page page (λ same. there (sym same ∙ eqb-is e.page no_page blank)) in
+        let other = eqb-not e.page page (λ same. there (sym same ∙ eqb-true e.page no_page blank)) in
         rw other (idle-none frame page es there (rw blank at used) k)
     | inr on ↦
         let both = rw on at used in
@@ -118,7 +110,7 @@ module _ {K : Type 0} where
     | inr on ↦
         let some = rw on at held in
         elim (cases_Bool (has_id page id e)) [
-          | inl it ↦ rw (it, less-true e.frame frame unused.0) refl
+          | inl it ↦ rw (it, lt-ltb e.frame frame unused.0) refl
           | inr other ↦
               let rest = rw other at some in
               rw (held-idle frame page id es unused.1 (omega (arith, rest))) (or-true (has_id page id e && ltb e.frame frame))

@@ -3,15 +3,15 @@ use Rattle.std.proofs.Common.{ℕ, ◌+◌, ◌<◌, ◌≤◌, ◌≡◌, min, 
 use Rattle.std.proofs.Common.{append_assoc}
 use Rattle.std.specs.List.{AllByRecursion}
 use Rattle.std.specs.Cmp.{IsEquivalence}
+use Rattle.guillotiere.specs.Pages.{page_sizes}
 use Rattle.atlas_cache.specs.declared.changes.CacheChange.{CacheChange}
 use Rattle.atlas_cache.specs.declared.changes.CacheChange.TheVariants.{Evicted}
 use Rattle.atlas_entries.specs.declared.entries.Entry.{Entry}
 use Rattle.atlas_cache.specs.declared.options.CacheOptions.{CacheOptions}
 use Rattle.atlas_cache.specs.Caches.{CacheState, shown, FramesFall, HaveOwnKeys}
 use Rattle.atlas_cache.specs.Changes.{Picture, all_changed, changed, picture_of, ShowsSame}
-use Rattle.atlas_cache.specs.Clearing.{all_evicted, DropsLast, IsUnusedFor, IsUsedSince, TellsChanges, Trims}
+use Rattle.atlas_cache.specs.Clearing.{all_evicted, DropsLast, IsUnusedFor, IsUsedSince, TellsChanges}
 use Rattle.atlas_cache.specs.Reserving.{UseAtMost}
-use Rattle.atlas_cache.specs.Rooms.{page_sizes}
 use Rattle.atlas_cache.proofs.KeyLemmas.{own_without}
 use Rattle.atlas_entries.proofs.AppendedLists.{append-none}
 use Rattle.atlas_cache.proofs.ListLemmas.{falls-last}
@@ -99,30 +99,6 @@ module _ {K : Type 0} where
             own = let rest = sym (append-none u.entries) in rw rest (own_without eq u.entries e [] (rw one.last at h.own));
             shows = rw (changed-last so_far c (picture_of eq s)) step;
           }
-
-    pub trimmed : (frames : ℕ) (before after : List (CacheChange K)) (s t : CacheState K)
-        → Dropped eq frames before after s t
-        → AllByRecursion (IsUsedSince frames s.frame) t.entries → Trims frames before after s t
-    trimmed frames before after s t h used = record {
-      gone = h.gone;
-      was = h.was;
-      unused = h.unused;
-      used = used;
-      listed = h.listed;
-      numbers = h.numbers;
-      reserved = h.reserved;
-      sizes = h.sizes;
-      slots = h.slots;
-      options = h.options;
-      frame = h.frame;
-      counts = h.counts;
-    }
-
-    pub trimmed-told : (frames : ℕ) (before after : List (CacheChange K)) (s t : CacheState K)
-        → Dropped eq frames before after s t
-        → TellsChanges eq before after s t
-    trimmed-told frames before after s t h =
-        record { made = all_evicted s.options.padding h.gone; listed = h.listed; shows = h.shows }
 
     pub none-told : (before : List (CacheChange K)) (s : CacheState K) → TellsChanges eq before before s s
     none-told before s = record { made = []; listed = sym (append-none before); shows = same_shown eq s }

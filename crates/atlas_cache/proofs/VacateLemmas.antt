@@ -6,6 +6,7 @@ use Rattle.std.proofs.Math.Bool.{and-false, and-true, or_comm}
 use Rattle.std.proofs.lemmas.{Bool.{cases_Bool}}
 use Rattle.std.proofs.lemmas.Bool.Decides.{eqb_tells}
 use Rattle.std.specs.List.{AllByRecursion, IsDistinct}
+use Rattle.std.proofs.lemmas.Bool.{lt-ltb, eqb-true}
 use Rattle.guillotiere.specs.declared.Size.{Size}
 use Rattle.guillotiere.specs.Changes.{and_id}
 use Rattle.guillotiere.specs.Stored.{AtlasValue}
@@ -17,8 +18,8 @@ use Rattle.atlas_entries.specs.Orders.{oldest_of}
 use Rattle.atlas_cache.proofs.BlankLemmas.{lying-append, lying-here}
 use Rattle.atlas_cache.proofs.HoldingLemmas.{holders-append}
 use Rattle.atlas_cache.proofs.ListLemmas.{falls-all}
-use Rattle.atlas_cache.proofs.PassLemmas.{last-counted, last-of, Last, no-last, no-length}
-use Rattle.atlas_cache.proofs.WalkLemmas.{at-number, entries-append, numbers-append}
+use Rattle.atlas_cache.proofs.PassLemmas.{last-counted, last-of, Last, no-last}
+use Rattle.atlas_cache.proofs.WalkLemmas.{at-number, entries-append, numbers-append, no-length}
 
 -- Whether numbers are equal doesn't depend on their order.
 pub eqb-sym : (a b : ℕ) → eqb a b ≡ eqb b a
@@ -29,9 +30,6 @@ eqb-sym a b = elim (eqb_tells a b) [
     | inr neither ↦ other.0 ∙ sym neither.0
   ]
 ]
-
-ltb-less : (a b : ℕ) → a < b → ltb a b ≡ true
-ltb-less a b less = grind (arith, less)
 
 ltb-not : (a b : ℕ) → (a < b → ⊥) → ltb a b ≡ false
 ltb-not a b not = grind (arith, not)
@@ -129,7 +127,7 @@ module _ {K : Type 0} where
   ids-held page id [] lies held = absurd (let no : false ≡ true = held in cc)
   ids-held page id (e ∷ es) lies held = elim (cases_Bool (has_id page id e)) [
     | inl it ↦ elim (cases_Bool (is_blank e)) [
-      | inl blank ↦ absurd (lies (has-page page id e it (eqb-is e.page no_page blank)))
+      | inl blank ↦ absurd (lies (has-page page id e it (eqb-true e.page no_page blank)))
       | inr on ↦ rw (on, it) (omega arith)
     ]
     | inr other ↦
@@ -140,12 +138,6 @@ module _ {K : Type 0} where
         ]
   ]
     where
-      eqb-is : (a b : ℕ) → eqb a b ≡ true → a ≡ b
-      eqb-is a b is = elim (eqb_tells a b) [
-        | inl same ↦ same.1
-        | inr differ ↦ absurd (let t : false ≡ true = sym differ.0 ∙ is in cc)
-      ]
-
       has-page : (page id : ℕ) (e : Entry K) → has_id page id e ≡ true → e.page ≡ no_page → page ≡ no_page
       has-page page id e it blank = elim (eqb_tells e.page page) [
         | inl same ↦ sym same.1 ∙ blank
@@ -191,7 +183,7 @@ module _ {K : Type 0} where
       → ids_on page es k ≡ idle_on frame page es k
   idle-unused frame page [] unused k = refl
   idle-unused frame page (e ∷ es) unused k =
-      rw (ltb-less e.frame frame unused.0, and-true (has_id page k e)) (ap (λ b. has_id page k e || b)
+      rw (lt-ltb e.frame frame unused.0, and-true (has_id page k e)) (ap (λ b. has_id page k e || b)
       (idle-unused frame page es unused.1 k))
 
   -- Of entries that begin with those which a frame used the others are idle.

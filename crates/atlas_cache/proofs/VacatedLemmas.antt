@@ -14,7 +14,7 @@ use Rattle.atlas_cache.proofs.LoopLemmas.{none_left}
 use Rattle.atlas_cache.specs.declared.changes.CacheChange.{CacheChange}
 use Rattle.atlas_cache.specs.declared.changes.CacheChange.TheVariants.{PageAdded, PageGrown, Evicted, Moved, PageRemoved}
 use Rattle.atlas_entries.specs.declared.entries.Entry.{Entry}
-use Rattle.atlas_cache.specs.Caches.{entries_of, entry_for, CacheState, FramesFall}
+use Rattle.atlas_cache.specs.Caches.{entry_for, CacheState, FramesFall}
 use Rattle.atlas_cache.specs.Changes.{ClearsBox, Ends, InsertsThere, LooksSame, MakesRoom}
 use Rattle.atlas_cache.specs.Reserving.{UseAtMost}
 use Rattle.atlas_cache.specs.Vacating.{lies_in, without_inside}
@@ -39,10 +39,6 @@ room-there asked pages page within room none =
     let there = page-there pages page within in none page there.0 within there.1 (room there.0 there.1)
 
 module _ {K : Type 0} where
-  pub entries-length : (es : List (ℕ × Entry K)) → length (entries_of es) ≡ length es
-  entries-length [] = refl
-  entries-length (x ∷ es) = omega (arith, entries-length es)
-
   falls-left : (page : ℕ) (box : Box) (f : ℕ) (es : List (Entry K)) → FramesFall f es
       → FramesFall f (without_inside page box es)
   falls-left page box f [] falls = tt

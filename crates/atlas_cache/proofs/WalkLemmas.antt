@@ -1,5 +1,6 @@
 -- Entries in their order, found by their numbers.
-use Rattle.std.proofs.Common.{ℕ, ◌≡◌, inl, inr, false, eqb, List, [], ◌∷◌, ◌++◌, None, Some, refl, sym, ap, ◌∙◌, append_assoc}
+use Rattle.std.proofs.Common.{ℕ, ◌≡◌, inl, inr, false, eqb, List, [], ◌∷◌, ◌++◌, None, Some, length, refl, sym, ap, ◌∙◌}
+use Rattle.std.proofs.Common.{append_assoc, arith}
 use Rattle.std.proofs.lemmas.{Bool.Decides.{eqb_tells}}
 use Rattle.std.proofs.lemmas.Map.Keys.{IsDistinct-head, IsDistinct-tail}
 use Rattle.std.specs.List.{IsDistinct}
@@ -119,3 +120,12 @@ module _ {K : Type 0} where
             was ∙ ap (λ (k : ℕ). p.newer ++ (n, e) ∷ (k, x.1) ∷ rest) num ∙ sym (append_assoc p.newer ((n, e) ∷ []) ((m, x.1) ∷ rest)) in
             let there = at-number (p.newer ++ (n, e) ∷ []) m x.1 rest (rw whole at apart) in
             sym at ∙ rw whole there
+
+-- A list whose first has no number is empty.
+pub no-first : {K : Type 0} (rest : List (ℕ × Entry K)) → None ≡ newest_of (numbers rest) → rest ≡ []
+no-first [] is = refl
+no-first (x ∷ xs) is = absurd (let some : None ≡ Some x.0 = is in cc)
+
+pub no-length : {K : Type 0} (rest : List (ℕ × Entry K)) → length rest ≡ 0 → rest ≡ []
+no-length [] is = refl
+no-length (x ∷ xs) is = absurd (omega (arith, is))

@@ -1,12 +1,12 @@
 -- The end of a batch.
 use Rattle.std.specs.Prelude.{◌≡◌, ◌+◌, min, ℕ, ℤ, List, [], ◌∷◌, ◌++◌, length}
+use Rattle.guillotiere.specs.Pages.{page_sizes}
 use Rattle.atlas_cache.specs.declared.changes.CacheChange.{CacheChange}
 use Rattle.atlas_cache.specs.declared.changes.CacheChange.TheVariants.{Evicted}
 use Rattle.atlas_entries.specs.declared.entries.Entry.{Entry}
 use Rattle.atlas_cache.specs.Caches.{CacheState, shown}
 use Rattle.atlas_cache.specs.Counting.{one_more}
 use Rattle.atlas_cache.specs.Reserving.{UseAtMost}
-use Rattle.atlas_cache.specs.Rooms.{page_sizes}
 
 module _ {K : Type 0} where
   -- Entries told as evicted, the first of the list first.

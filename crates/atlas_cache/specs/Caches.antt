@@ -7,7 +7,7 @@ use Rattle.guillotiere.specs.declared.Rectangle.{Rectangle}
 use Rattle.guillotiere.specs.declared.Size.{Size}
 use Rattle.guillotiere.specs.Boxes.{IsPositive, IsWithin}
 use Rattle.guillotiere.specs.Callers.{RectanglesLieApart}
-use Rattle.guillotiere.specs.Pages.{rectangle_on, NoneHasRoomBelow}
+use Rattle.guillotiere.specs.Pages.{page_sizes, rectangle_on, NoneHasRoomBelow}
 use Rattle.guillotiere.specs.Pixels.{box_of, sides_of}
 use Rattle.guillotiere.specs.Stored.{AtlasValue, state_of}
 use Rattle.atlas_cache.specs.declared.counts.Counts.{Counts}
@@ -16,7 +16,7 @@ use Rattle.atlas_cache.specs.declared.options.CacheOptions.{CacheOptions}
 use Rattle.atlas_cache.specs.declared.places.Place.{Place}
 use Rattle.atlas_cache.specs.Asking.{inner_of, no_pixels, IsBorderedBy}
 use Rattle.atlas_entries.specs.Entries.{entry_at, is_blank, lying, without_number}
-use Rattle.atlas_cache.specs.Rooms.{growth_left, page_sizes, AreAllLargest}
+use Rattle.atlas_cache.specs.Rooms.{growth_left, AreAllLargest}
 
 -- What contracts see of a cache: how it was made, the atlas of each page, the entries, the most recently used first,
 -- how many numbers entries had so far, how many entries are in reserve (for so many that come next there is memory), the

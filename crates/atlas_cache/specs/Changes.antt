@@ -7,7 +7,7 @@ use Rattle.guillotiere.specs.Boxes.{Box, IsPositive}
 use Rattle.guillotiere.specs.Pixels.{sides_of}
 use Rattle.guillotiere.specs.Changes.{release}
 use Rattle.guillotiere.specs.Stored.{state_of, AtlasValue}
-use Rattle.guillotiere.specs.Pages.{AddsBoxOn, HasRoomOn, HasSameRectangles, KeepsPages, LeavesNoBoxOn, NoneHasRoomBelow}
+use Rattle.guillotiere.specs.Pages.{page_sizes, AddsBoxOn, HasRoomOn, HasSameRectangles, KeepsPages, LeavesNoBoxOn, NoneHasRoomBelow}
 use Rattle.atlas_cache.specs.declared.counts.Counts.{Counts}
 use Rattle.atlas_cache.specs.declared.changes.CacheChange.{CacheChange}
 use Rattle.atlas_cache.specs.declared.changes.CacheChange.TheVariants.{PageAdded, PageGrown, Evicted, Moved, PageRemoved}
@@ -24,7 +24,7 @@ use Rattle.atlas_entries.specs.Entries.{is_blank, lying, without_number, Table}
 use Rattle.atlas_cache.specs.Placing.{FreesOn, GrantsOn, GrowsOn, StartsOn}
 use Rattle.atlas_entries.specs.Limits.{IsWithoutNumber}
 use Rattle.atlas_cache.specs.Reserving.{UseAtMost}
-use Rattle.atlas_cache.specs.Rooms.{has_area, page_sizes, AreAllLargest, IsAtLeast, IsFirstToGrow, IsRounded, RoomsState}
+use Rattle.atlas_cache.specs.Rooms.{has_area, AreAllLargest, IsAtLeast, IsFirstToGrow, IsRounded, RoomsState}
 use Rattle.atlas_cache.specs.Vacating.{idle_on, ids_on, ids_inside, lies_in, without_inside, HasNoRoomWithout, IsRoomWithout}
 
 -- A caller's picture of a cache: the place of each key, and the size of each page.

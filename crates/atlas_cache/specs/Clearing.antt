@@ -1,6 +1,7 @@
 -- What goes without another entry that comes: all entries, or those that were long unused.
 use Rattle.std.specs.Prelude.{◌≡◌, ◌+◌, ◌<◌, ◌≤◌, min, ℕ, ℤ, Bool, List, [], ◌∷◌, ◌++◌, length, None}
 use Rattle.std.specs.List.{AllByRecursion}
+use Rattle.guillotiere.specs.Pages.{page_sizes}
 use Rattle.atlas_cache.specs.declared.changes.CacheChange.{CacheChange}
 use Rattle.atlas_cache.specs.declared.changes.CacheChange.TheVariants.{Evicted}
 use Rattle.atlas_entries.specs.declared.entries.Entry.{Entry}
@@ -8,7 +9,7 @@ use Rattle.atlas_cache.specs.Caches.{CacheState, shown}
 use Rattle.atlas_cache.specs.Changes.{Picture, all_changed, picture_of, ShowsSame}
 use Rattle.atlas_cache.specs.Counting.{one_more}
 use Rattle.atlas_cache.specs.Reserving.{UseAtMost}
-use Rattle.atlas_cache.specs.Rooms.{page_sizes, IsNothingLive}
+use Rattle.atlas_cache.specs.Rooms.{IsNothingLive}
 
 module _ {K : Type 0} where
   -- No entry is left and nothing is live; numbers begin again at 0, and what the entries had is in reserve. The pages keep

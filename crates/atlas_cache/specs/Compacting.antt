@@ -3,7 +3,7 @@ use Rattle.std.specs.Prelude.{◌≡◌, ◌⊎◌, ◌-◌, ◌<◌, ◌≤◌,
 use Rattle.std.specs.List.{AllByRecursion}
 use Rattle.guillotiere.specs.declared.Size.{Size}
 use Rattle.guillotiere.specs.Boxes.{area, box_sides}
-use Rattle.guillotiere.specs.Pages.{AddsBoxOn, LeavesNoBoxOn, NoneHasRoomBelow}
+use Rattle.guillotiere.specs.Pages.{page_sizes, AddsBoxOn, LeavesNoBoxOn, NoneHasRoomBelow}
 use Rattle.guillotiere.specs.Pixels.{box_of, size_of}
 use Rattle.guillotiere.specs.Stored.{AtlasValue}
 use Rattle.atlas_cache.specs.declared.changes.CacheChange.{CacheChange}
@@ -15,7 +15,7 @@ use Rattle.atlas_entries.specs.Entries.{entry_at, moved as with_place, Table}
 use Rattle.atlas_cache.specs.Placing.{FreesOn, GrantsOn}
 use Rattle.atlas_cache.specs.Relocating.{keys_of}
 use Rattle.atlas_cache.specs.Reserving.{UseAtMost}
-use Rattle.atlas_cache.specs.Rooms.{page_sizes, RoomsState}
+use Rattle.atlas_cache.specs.Rooms.{RoomsState}
 
 -- The number of the last page.
 abbrev pub last_page : List AtlasValue → ℕ

@@ -3,7 +3,7 @@ use Rattle.std.specs.Prelude.{◌≡◌, ◌≢◌, ◌⊎◌, ◌+◌, ◌<◌,
 use Rattle.std.specs.Prelude.{IfErr, IfOk, IfSome, OnErr}
 use Rattle.guillotiere.specs.declared.Allocation.{Allocation}
 use Rattle.guillotiere.specs.declared.Size.{Size}
-use Rattle.guillotiere.specs.Pages.{AddsBoxOn, HasRoomFor, NoneHasRoomBelow}
+use Rattle.guillotiere.specs.Pages.{page_sizes, AddsBoxOn, HasRoomFor, NoneHasRoomBelow}
 use Rattle.guillotiere.specs.Pixels.{options_of, sides_of}
 use Rattle.guillotiere.specs.Replies.{grant_of}
 use Rattle.guillotiere.specs.Changes.{only}
@@ -17,7 +17,7 @@ use Rattle.atlas_entries.specs.declared.error.CacheError.TheVariants.{Memory, Sl
 use Rattle.atlas_cache.specs.declared.options.CacheOptions.{CacheOptions}
 use Rattle.atlas_entries.specs.Entries.{no_page}
 use Rattle.atlas_cache.specs.Reserving.{HaveSlots, IsShortOfSlots, UseAtMost}
-use Rattle.atlas_cache.specs.Rooms.{page_sizes, IsAtLeast, IsFirstToGrow, IsRefusal, IsRounded, RoomsState}
+use Rattle.atlas_cache.specs.Rooms.{IsAtLeast, IsFirstToGrow, IsRefusal, IsRounded, RoomsState}
 
 -- The atlas of a page grants a request by a step of its own, which says where: in the free rectangle that it picks.
 abbrev pub GrantsOn : (asked : Size) → (old new : List AtlasValue) → (page : ℕ) → Allocation → Type 0

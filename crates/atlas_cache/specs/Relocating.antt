@@ -6,13 +6,12 @@ use Rattle.std.specs.List.Sorted.{IsSortedByKey}
 use Rattle.std.specs.Ordering.{nat_cmp}
 use Rattle.guillotiere.specs.declared.Change.{Change}
 use Rattle.guillotiere.specs.declared.Allocation.{Allocation}
-use Rattle.guillotiere.specs.Pages.{KeepsPages}
+use Rattle.guillotiere.specs.Pages.{page_sizes, KeepsPages}
 use Rattle.atlas_cache.specs.declared.changes.CacheChange.{CacheChange}
 use Rattle.atlas_cache.specs.declared.changes.CacheChange.TheVariants.{Evicted, Moved}
 use Rattle.atlas_entries.specs.declared.entries.Entry.{Entry}
 use Rattle.atlas_cache.specs.Caches.{CacheState, shown}
 use Rattle.atlas_cache.specs.Repacking.{PlacesAnew}
-use Rattle.atlas_cache.specs.Rooms.{page_sizes}
 
 -- The id that a rectangle had before a change.
 abbrev pub former_id : Change → ℕ

@@ -5,7 +5,7 @@ use Rattle.guillotiere.specs.declared.Rectangle.{Rectangle}
 use Rattle.guillotiere.specs.declared.Size.{Size}
 use Rattle.guillotiere.specs.Boxes.{area, box_sides, Fits, Sides}
 use Rattle.guillotiere.specs.Choice.{rounded}
-use Rattle.guillotiere.specs.Pages.{rectangle_on, HasRoomFor, NoneHasRoomBelow}
+use Rattle.guillotiere.specs.Pages.{page_sizes, rectangle_on, HasRoomFor, NoneHasRoomBelow}
 use Rattle.guillotiere.specs.Pixels.{box_of, natural, options_of, sides_of, size_of}
 use Rattle.guillotiere.specs.Replies.{IsExact}
 use Rattle.guillotiere.specs.States.{free_in, live_in, IsSound}
@@ -23,14 +23,6 @@ pub record RoomsState : Type 0 where
 
 abbrev pub rooms_of : CacheOptions → List AtlasValue → RoomsState
 rooms_of o pages = record { options = o; pages = pages }
-
--- The size of a page, in pixels.
-abbrev pub size_of_page : AtlasValue → Size
-size_of_page s = size_of (state_of s).size
-
--- The sizes of all pages.
-abbrev pub page_sizes : List AtlasValue → List Size
-page_sizes pages = map size_of_page pages
 
 -- What the atlas of each page stores.
 abbrev pub stored_on : List AtlasValue → List Stored

@@ -4,7 +4,7 @@ ghost use Rattle.std.specs.Prelude.{IsSome, IsTrue};
 ghost use Rattle.std.specs.List.{list_any};
 ghost use Rattle.std.specs.Prelude.{Err, None, Ok, OnErr, Some, vec_capacity, vec_len};
 ghost use Rattle.guillotiere.specs.Boxes.{IsPositive};
-ghost use Rattle.guillotiere.specs.Pages.{KeepsPages};
+ghost use Rattle.guillotiere.specs.Pages.{page_sizes, KeepsPages};
 ghost use Rattle.guillotiere.specs.Pixels.{sides_of, size_of};
 ghost use Rattle.atlas_cache.specs.Asking.{bordered, AreUsable, CanStand, IsFaultIn};
 ghost use Rattle.atlas_cache.specs.Counting.{one_more};
@@ -13,7 +13,7 @@ ghost use Rattle.atlas_cache.specs.Placing.{IsFirstShort, IsGrowthShort, LacksSl
 ghost use Rattle.atlas_cache.specs.Refusals.{IsRefusedNew};
 ghost use Rattle.atlas_cache.specs.Reserving.{room_in, AllowSlots, HasReserves, HaveSlots, IsReadyFor, IsShortOfSlots, KeepsPageSizes};
 ghost use Rattle.atlas_cache.specs.Reserving.{KeepsReady, KeepsReadyButOne, UseAtMost};
-ghost use Rattle.atlas_cache.specs.Rooms.{has_area, page_sizes, HasRoomOnlyAmong, IsRefusal};
+ghost use Rattle.atlas_cache.specs.Rooms.{has_area, HasRoomOnlyAmong, IsRefusal};
 ghost use Rattle.atlas_entries.specs.declared.error.CacheError.TheVariants.{Memory, Slots};
 ghost use Rattle.atlas_cache.specs.declared.inserted.Inserted.TheVariants.{FrameFull, Held, NeverFits, Placed};
 
@@ -105,7 +105,7 @@ impl<K: Copy + Eq + Hash, A: Allocator + Copy> TextureCache<K, DefaultHasher, A>
 impl<K: Copy + Eq + Hash, S: BuildHasher + Drop, A: Allocator + Copy> TextureCache<K, S, A> {
     ghost use Rattle.atlas_cache.specs.Caches.{nothing_held};
 
-    /// The same, with a hasher for the keys.
+    /// No pages and no entries, with a hasher for the keys. Takes no memory. An error says what is wrong with the options.
     pub fn with_hasher(alloc: A, options: CacheOptions, hasher: S) -> Result<Self, OptionsError>
         ensures ok { IsOk result ↔ AreUsable options }
         ensures new { IfOk result (λ cache. cache ≡ nothing_held options) }

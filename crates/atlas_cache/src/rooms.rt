@@ -4,7 +4,7 @@ ghost use Rattle.std.specs.Prelude.{slice_get, slice_set, IfErr, IfNone, IfOk, I
 ghost use Rattle.std.specs.Prelude.{Err, None, Ok, OnErr, Some};
 ghost use Rattle.guillotiere.specs.Boxes.{Fits, IsPositive};
 ghost use Rattle.guillotiere.specs.Callers.{IsShortage};
-ghost use Rattle.guillotiere.specs.Pages.{rectangle_on, AllLieApartOn, AllLieWithinOn, HasSameRectangles, KeepsPages};
+ghost use Rattle.guillotiere.specs.Pages.{page_sizes, rectangle_on, AllLieApartOn, AllLieWithinOn, HasSameRectangles, KeepsPages};
 ghost use Rattle.guillotiere.specs.Pages.{LeavesNoBoxOn, NoneHasRoomBelow};
 ghost use Rattle.guillotiere.specs.Pixels.{natural, sides_of, size_of};
 ghost use Rattle.atlas_cache.specs.declared.options.CacheOptions.{CacheOptions};
@@ -12,7 +12,7 @@ ghost use Rattle.atlas_cache.specs.Asking.{AreUsable};
 ghost use Rattle.atlas_entries.specs.Entries.{no_page};
 ghost use Rattle.atlas_cache.specs.Placing.{FreesOn, GrowsOn, IsGrowthShort, PlacesBefore, PlacesFirst, StartsOn};
 ghost use Rattle.atlas_cache.specs.Reserving.{IsShortOfSlots, UseAtMost};
-ghost use Rattle.atlas_cache.specs.Rooms.{grown_sides, growth_left, page_sizes, rooms_of, AreAllLargest};
+ghost use Rattle.atlas_cache.specs.Rooms.{grown_sides, growth_left, rooms_of, AreAllLargest};
 ghost use Rattle.atlas_cache.specs.Rooms.{AreLargestBelow, HasRoomOnlyAmong, IsFirstToGrow, IsNothingLive};
 ghost use Rattle.atlas_cache.specs.Rooms.{IsRefusal, KeepsRooms, LargestHasRoom};
 ghost use Rattle.atlas_cache.specs.Shrinking.{DropsIdle, IsLastInUse};
@@ -224,7 +224,7 @@ impl<A: Allocator + Copy> Rooms<A> {
         self.place_among(0, to, asked)
     }
 
-    // The same, where none but the pages from `from` on and before `to` can have room: only these are looked at.
+    // Grants a request as `place` does, where none but the pages from `from` on and before `to` can have room: only these are looked at.
     pub(crate) fn place_among(
         &mut self,
         from: usize,

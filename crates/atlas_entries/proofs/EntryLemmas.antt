@@ -1,5 +1,5 @@
 -- Entries under their numbers: what becomes of them where the order or the list of what belongs to each number changes.
-use Rattle.std.proofs.Common.{ℕ, zero, suc, ◌<◌, ◌≤◌, ◌≡◌, ◌⊎◌, inl, inr, Bool, true, false, cond, eqb, List, [], ◌∷◌, ◌++◌, length, set}
+use Rattle.std.proofs.Common.{ℕ, zero, suc, ◌<◌, ◌≤◌, ◌≡◌, ◌⊎◌, inl, inr, Bool, true, false, cond, eqb, List, [], ◌∷◌, length, set}
 use Rattle.std.proofs.Common.{Option, None, Some, is_some, refl, sym, ap, ◌∙◌, arith, slice_get, length-set, get_or-set_same}
 use Rattle.std.proofs.Common.{get_or-set_other}
 use Rattle.std.specs.Option.{option_map_or}
@@ -37,15 +37,6 @@ module _ {A : Type 0} where
             sym (slice_get-get_or xs j y l)
         | inr l ↦ slice_get_past (set xs k y) j (omega (arith, length-set xs k y)) ∙ sym (slice_get_past xs j l)
       ]
-
-  pub slice_get-append_left : (xs ys : List A) (k : ℕ) → k < length xs → slice_get (xs ++ ys) k ≡ slice_get xs k
-  slice_get-append_left [] ys k l = absurd (omega arith)
-  slice_get-append_left (x ∷ xs) ys zero l = refl
-  slice_get-append_left (x ∷ xs) ys (suc k) l = slice_get-append_left xs ys k (omega arith)
-
-  pub slice_get-append_seam : (xs : List A) (y : A) (ys : List A) → slice_get (xs ++ y ∷ ys) (length xs) ≡ Some y
-  slice_get-append_seam [] y ys = refl
-  slice_get-append_seam (x ∷ xs) y ys = slice_get-append_seam xs y ys
 
 -- The first of a list occurs in it.
 pub first-occurs : (x : ℕ) (ns : List ℕ) → 0 < occurs x (x ∷ ns)

@@ -1,7 +1,6 @@
 -- A sound state has one list of free boxes from above to below and from left to right.
 use Rattle.std.proofs.Common.{◌≡◌, ℕ, zero, suc, ◌+◌, ◌<◌, ◌≤◌, inl, inr, Bool, true, false, List, [], ◌∷◌, ◌++◌, length, get_or, map, refl}
 use Rattle.std.proofs.Common.{sym, ap, ◌∙◌, subst, arith, add-one}
-use Rattle.std.proofs.lemmas.Bool.{le-leb, lt-ltb, and_from}
 use Rattle.std.specs.List.{All, count_by}
 use Rattle.std.proofs.lemmas.List.Elements.{All-cons, All-tail}
 use Rattle.guillotiere.specs.declared.Rectangle.{Rectangle}
@@ -14,6 +13,9 @@ use Rattle.guillotiere.proofs.ListLemmas.ListCounts.{count_by-cons, count_by-app
 use Rattle.guillotiere.proofs.StepLemmas.LiveBoxes.{sound_is_tiled}
 use Rattle.guillotiere.proofs.StepLemmas.ApartBoxes.{covered_few}
 use Rattle.guillotiere.proofs.TreeLemmas.TreeBasics.{one_if, same_box-true, same_box-itself}
+use Rattle.guillotiere.proofs.TreeLemmas.TreePlacements.{covers_corner}
+use Rattle.guillotiere.proofs.ListLemmas.CallerLemmas.{count_by-all}
+use Rattle.guillotiere.proofs.ChoiceLemmas.PickExistence.{first-then}
 use Rattle.atlas_lines.specs.Machine.{AreInOrder, HoldsHoles}
 
 -- ---- what is counted
@@ -37,11 +39,6 @@ first_counted x xs =
     omega (arith, one)
 
 -- ---- the corners of boxes that share no unit square
-
-covers_corner : (b : Box) → IsNonempty b → covers b.min.x b.min.y b ≡ true
-covers_corner b h =
-    and_from _ _ (and_from _ _ (le-leb b.min.x b.min.x (omega arith)) (lt-ltb b.min.x b.max.x h.0))
-    (and_from _ _ (le-leb b.min.y b.min.y (omega arith)) (lt-ltb b.min.y b.max.y h.1))
 
 -- At most one of the boxes covers each unit square.
 abbrev pub CoverOnce : List Box → Type 0
@@ -86,12 +83,6 @@ same_corner x y xs once hx hy some ex ey = by_test (same_box y x) refl
 
 -- ---- the order
 
-after_both : (a b c : Box) → ComesFirst a b → ComesFirst b c → ComesFirst a c
-after_both a b c (inl e) (inl f) = inl (omega arith)
-after_both a b c (inl e) (inr f) = inl (omega (arith, f.0))
-after_both a b c (inr e) (inl f) = inl (omega (arith, e.0))
-after_both a b c (inr e) (inr f) = inr (e.0 ∙ f.0, omega (arith, e.1, f.1))
-
 both_first : (a b : Box) → ComesFirst a b → ComesFirst b a → (b.min.x ≡ a.min.x) × (b.min.y ≡ a.min.y)
 both_first a b (inl e) (inl f) = absurd (omega arith)
 both_first a b (inl e) (inr f) = absurd (omega (arith, f.0))
@@ -114,22 +105,18 @@ each_after x [] order = λ k d h. absurd (omega arith)
 each_after x (y ∷ ys) order =
     let first = first_of_two x y ys order in
     let others = each_after y ys (order_tail x (y ∷ ys) order) in
-    All-cons (ComesFirst x) y ys first (λ k d h. after_both x y (get_or ys k d) first (others k d h))
+    All-cons (ComesFirst x) y ys first (λ k d h. first-then x y (get_or ys k d) first (others k d h))
 
 least : (x : Box) (xs : List Box) → AreInOrder (x ∷ xs) → All (ComesFirst x) (x ∷ xs)
 least x xs order = All-cons (ComesFirst x) x xs (comes_itself x) (each_after x xs order)
 
 -- ---- lists with the same boxes in order
 
-count_all : (xs : List Box) → count_by (λ _. true) xs ≡ length xs
-count_all [] = refl
-count_all (x ∷ xs) = count_by-cons (λ (_ : Box). true) x xs ∙ ap (λ n. 1 + n) (count_all xs) ∙ omega arith
-
 one_order : (xs ys : List Box) → AreSameBoxes xs ys → CoverOnce xs → All IsNonempty xs → AreInOrder xs → AreInOrder ys
     → xs ≡ ys
 one_order [] [] same once nonempty order other = refl
-one_order [] (y ∷ ys) same once nonempty order other = absurd (omega (arith, same (λ _. true), count_all (y ∷ ys)))
-one_order (x ∷ xs) [] same once nonempty order other = absurd (omega (arith, same (λ _. true), count_all (x ∷ xs)))
+one_order [] (y ∷ ys) same once nonempty order other = absurd (omega (arith, same (λ _. true), count_by-all (y ∷ ys)))
+one_order (x ∷ xs) [] same once nonempty order other = absurd (omega (arith, same (λ _. true), count_by-all (x ∷ xs)))
 one_order (x ∷ xs) (y ∷ ys) same once nonempty order other =
     let y_in : 0 < count_by (same_box y) (x ∷ xs) = subst (λ n. 0 < n) (sym (same (same_box y))) (first_counted y ys) in
     let x_in : 0 < count_by (same_box x) (y ∷ ys) = subst (λ n. 0 < n) (same (same_box x)) (first_counted x xs) in

@@ -5,12 +5,10 @@ use Rattle.std.proofs.lemmas.List.{take_all, take_more}
 use Rattle.std.proofs.lemmas.List.Elements.{All-append, All-contains, All-contains_itself, All-push, All-weaker, Contains-append_left}
 use Rattle.std.proofs.lemmas.List.Elements.{Contains-append_right, Contains-get_or, Contains-push, Contains-push_cases}
 use Rattle.atlas_model.specs.Boxes.{Box, IsInside, IsNonempty}
+use Rattle.atlas_model.proofs.TreeLemmas.TreeRoom.{inside_trans}
 use Rattle.atlas_maxrects.specs.declared.free.FreeBox.{FreeBox}
 use Rattle.atlas_maxrects.specs.Free.{AddsParts, AreLeftOver, IsLeftOver, IsPart, LiesInOne, free_box}
 use Rattle.atlas_maxrects.specs.Placing.{LieApart}
-
-pub inside_both : (a b c : Box) → IsInside a b → IsInside b c → IsInside a c
-inside_both a b c p q = grind arith
 
 pub lies_left : (xs ys : List FreeBox) (b : Box) → LiesInOne xs b → LiesInOne (xs ++ ys) b
 lies_left xs ys b (f, has, inside) = (f, Contains-append_left xs ys f has, inside)
@@ -169,7 +167,7 @@ pub without_dropped : (boxes : List FreeBox) (part : FreeBox) (i : ℕ) (xs : Li
 without_dropped boxes part i xs d below lies before = record {
   kept = λ b is. elim (taken_cases boxes i d b below is) [
     | inl old ↦ before.kept b old
-    | inr inside ↦ inr (inside_both b (free_box (get_or boxes i d)) (free_box part) inside lies)
+    | inr inside ↦ inr (inside_trans b (free_box (get_or boxes i d)) (free_box part) inside lies)
   ];
   every = before.every;
 }

@@ -29,10 +29,6 @@ none_covers x y t (b ∷ bs) all has =
     ∙ ap (λ k. one_if k + count_by (covers x y) bs) first
     ∙ (let rest = none_covers x y t bs (All-tail (LieApart t) b bs all) has in omega (arith, rest))
 
-one_at_most : (p : Bool) → one_if p ≤ 1
-one_at_most true = omega arith
-one_at_most false = omega arith
-
 last_count : (x y : ℕ) (t : Box) (bs : List Box)
     → count_by (covers x y) (bs ++ t ∷ []) ≡ count_by (covers x y) bs + one_if (covers x y t)
 last_count x y t bs =
@@ -129,14 +125,6 @@ stored_more sheet free rest placed t r same exact stored lies left =
       apart = subst AreDisjoint (sym (last_placed placed r)) (disjoint_push (map box_of placed) (box_of r) stored.apart here.1);
       exact = All-push IsExact placed r stored.exact exact;
     }
-
--- No side of a box in the sheet passes 2147483647.
-pub small_box : (sheet : Sides) (free : List FreeBox) (placed : List Rectangle) (t : FreeBox)
-    → IsStored sheet free placed
-    → LiesInOne free (free_box t) → (t.right ≤ 2147483647) × (t.bottom ≤ 2147483647)
-small_box sheet free placed t stored lies =
-    let is = lies_free (placing sheet placed) free (free_box t) stored.every lies in
-    (omega (arith, is.0.0, stored.small.0), omega (arith, is.0.1, stored.small.1))
 
 pub within_boxes : (sheet : Sides) (free : List FreeBox) (placed : List Rectangle) → IsStored sheet free placed
     → All (IsWithin sheet) (map box_of placed)

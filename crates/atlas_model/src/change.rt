@@ -33,7 +33,7 @@ impl<A: Allocator + Copy> ChangeList<A> {
         }
     }
 
-    /// The same lists once more. `Memory` is the only error.
+    /// Lists with the same changes and failures. `Memory` is the only error.
     pub fn clone(&self) -> Result<Self, AtlasError>
         ensures unless { IsOkUnless result AtlasError.Memory }
         ensures changes { IfOk result (λ list. list.changes.items ≡ self.now.changes.items) }

@@ -354,7 +354,7 @@ pub fn grants_are_given_back()
     ensures { GrantsAreGivenBack }
 {}
 
-/// The same of a list of grants, freed one after another or by one call: each id has the box that it had.
+/// Grants that are freed, one after another or by one call, leave no trace: each id has the box that it had.
 #[tactic(auto, using(crate::proofs::StepLemmas::GivenBack::many_are_given_back))]
 pub fn many_are_given_back()
     ensures { ManyAreGivenBack }

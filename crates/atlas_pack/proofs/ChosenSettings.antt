@@ -215,12 +215,6 @@ chosen s text after word tail rest first e parted begins =
     let parts = setting_word s text after word tail rest first e parted begins in
     subst (λ (w : List ℕ). IsSettingChosen s w tail rest) (sym parts.0) (chosen_by s (arguments s) tail rest refl begins.small parts.1)
 
-pub by_alone : (s found : Setting) (word tail rest : List ℕ) → IsSettingChosen s word tail rest
-    → Some found ≡ setting_alone word → (found ≡ s) × (tail ≡ rest)
-by_alone s found word tail rest (inl h) e = let is = h.0 in (cc, h.1)
-by_alone s found word tail rest (inr (inl h)) e = let not = h.not_alone in absurd (cc)
-by_alone s found word tail rest (inr (inr h)) e = let not = h.not_alone in absurd (cc)
-
 -- A first number follows where no word is alone.
 pub first_follows : (s : Setting) (word tail rest : List ℕ) → IsSettingChosen s word tail rest
     → None ≡ setting_alone word

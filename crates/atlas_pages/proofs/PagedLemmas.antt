@@ -1,11 +1,11 @@
 -- Pages of which one changes, one comes last, or the last ones go.
-use Rattle.std.proofs.Common.{◌≡◌, ◌≢◌, ◌<◌, ◌≤◌, ◌+◌, ◌++◌, ◌∷◌, ◌∙◌, ◌==◌, [], ℕ, zero, suc, List, Option, Some, None, Ok, Err, length}
-use Rattle.std.proofs.Common.{Result, IfErr, OnErr, OnOk, get_or, slice_get, slice_set, option_map, take}
+use Rattle.std.proofs.Common.{◌≡◌, ◌≢◌, ◌<◌, ◌≤◌, ◌+◌, ◌++◌, ◌∷◌, ◌∙◌, [], ℕ, zero, suc, List, Option, Some, None, Ok, Err, length}
+use Rattle.std.proofs.Common.{Result, IfErr, OnErr, OnOk, get_or, slice_get, slice_set, take}
 use Rattle.std.proofs.Common.{refl, sym, ap, subst, arith, inl, inr, length-append}
-use Rattle.std.specs.Prelude.{find, max, IfOk, IfSome}
+use Rattle.std.specs.Prelude.{max, IfOk, IfSome}
 use Rattle.std.specs.Option.{option_and_then}
 use Rattle.std.proofs.lemmas.Bool.Decides.{eqb_tells}
-use Rattle.std.proofs.lemmas.Option.{slice_get-get_or, slice_get_cases, slice_get_past, slice_get_within}
+use Rattle.std.proofs.lemmas.Option.{slice_get-get_or, slice_get_cases, slice_get_within}
 use Rattle.std.proofs.lemmas.List.{with_items_is}
 use Rattle.std.proofs.Math.Seq.{map-set_same}
 use Rattle.std.specs.Prelude.{Vec}
@@ -16,9 +16,9 @@ use Rattle.guillotiere.specs.declared.AtlasError.TheVariants.{Memory, NotLive, S
 use Rattle.guillotiere.specs.declared.Rectangle.{Rectangle}
 use Rattle.guillotiere.specs.declared.Size.{Size}
 use Rattle.guillotiere.specs.Boxes.{Fits}
-use Rattle.guillotiere.specs.Callers.{rectangle_in, AddsBox, HasFrame, HasSameBoxes, IsGranted, IsShortage, KeepsAll, KeepsFrame}
-use Rattle.guillotiere.specs.Pages.{rectangle_on, AddsBoxOn, HasSameRectangles, IsAnswerOn}
-use Rattle.guillotiere.specs.Pages.{KeepsPages, LeavesNoBoxOn, NoneHasRoomBelow}
+use Rattle.guillotiere.specs.Callers.{rectangle_in, AddsBox, HasFrame, IsGranted, IsShortage, KeepsAll, KeepsFrame}
+use Rattle.guillotiere.specs.Pages.{page_sizes, rectangle_on, size_of_page, AddsBoxOn, HasSameRectangles, IsAnswerOn}
+use Rattle.guillotiere.specs.Pages.{NoneHasRoomBelow}
 use Rattle.guillotiere.specs.Pixels.{box_of, options_of, sides_of, size_of}
 use Rattle.guillotiere.specs.Choice.{HasNoRoom}
 use Rattle.guillotiere.specs.Replies.{allocate_reply, done_reply}
@@ -28,18 +28,14 @@ use Rattle.guillotiere.specs.Steps.{AtlasCall, AtlasReply, Step}
 use Rattle.guillotiere.specs.Steps.AtlasCall.{Allocate, Clear, Deallocate, Grow}
 use Rattle.guillotiere.specs.Steps.AtlasReply.{Allocated, Done, Refused}
 use Rattle.guillotiere.specs.Stored.{AtlasValue, state_of}
-use Rattle.guillotiere.proofs.Callers.{page_added, page_adds, page_goes, page_keeps, page_stays}
+use Rattle.guillotiere.proofs.Callers.{page_added, page_adds, page_goes, page_keeps, page_stays, same_boxes, others_stay, last_there}
 use Rattle.guillotiere.proofs.ListLemmas.CallerLemmas.{slice_get-set_here, slice_get-set_other}
-use Rattle.atlas_pages.specs.Paged.{empty_page, page_sizes, size_of_page, AreIdleAmong, GrowsOn, IsFirstOn, IsGrantedOn}
+use Rattle.atlas_pages.specs.Paged.{empty_page, AreIdleAmong, GrowsOn, IsFirstOn, IsGrantedOn}
 use Rattle.atlas_pages.specs.Paged.{IsGrowthFault, IsGrowthFaultIn, IsIdle, IsLastBusy}
 use Rattle.atlas_pages.specs.declared.error.PagesError.{PagesError}
 use Rattle.atlas_pages.specs.declared.error.PagesError.TheVariants as fault
 use Rattle.atlas_pages.specs.Paged.{AreSpent, IsNewFault, IsRefusedOn, JoinsPage, PagedState, StepsAt, StepsOn, state_at, state_on, told}
 use Rattle.atlas_pages.specs.declared.paged.PageAllocation.{PageAllocation}
-
--- Where the same is live, each id has the box that it had.
-same_boxes : (s t : State) → live_in t ≡ live_in s → HasSameBoxes s t
-same_boxes s t live id = ap (λ gs. option_map (λ g. g.box) (find (λ g. g.id == id) gs)) live
 
 -- One page of a list, a, becomes b.
 module _ (pages : List AtlasValue) (page : ℕ) (d b : AtlasValue) (within : page < length pages) where
@@ -186,12 +182,6 @@ get_last (p ∷ pages) a = get_last pages a
 within_last : (pages : List AtlasValue) (a : AtlasValue) → length pages < length (pages ++ a ∷ [])
 within_last pages a = omega (arith, length-append pages (a ∷ []))
 
-others_stay : (pages : List AtlasValue) (b : AtlasValue) → KeepsPages pages (pages ++ b ∷ []) (length pages)
-others_stay [] b zero other = absurd (other refl)
-others_stay [] b (suc k) other = refl
-others_stay (p ∷ pages) b zero other = refl
-others_stay (p ∷ pages) b (suc k) other = others_stay pages b k (λ same. other (omega (arith, same)))
-
 no_last : (pages : List AtlasValue) (s : AtlasValue) {X : Type 0} → slice_get pages (length pages) ≡ Some s → X
 no_last pages s there = absurd (let some : None ≡ Some s = sym (past_last pages) ∙ there in cc)
 
@@ -219,15 +209,11 @@ pub is_granted_last : (request : Size) (s : PagedState) (r : Rectangle) → IsGr
     → IsGrantedOn s request (length s.pages) r
 is_granted_last request s r granted = rw (past_last s.pages) granted
 
-there_last : (pages : List AtlasValue) (b : AtlasValue) → slice_get (pages ++ b ∷ []) (length pages) ≡ Some b
-there_last [] b = refl
-there_last (p ∷ pages) b = there_last pages b
-
 -- A page that comes last makes its first step.
 pub steps_last : (s : PagedState) (b : AtlasValue) (call : AtlasCall) (reply : AtlasReply)
     → Step (empty_page s) call reply (state_of b)
     → StepsOn s (record s { pages = s.pages ++ b ∷ [] }) (length s.pages) call reply
-steps_last s b call reply step = rw (past_last s.pages, there_last s.pages b) step
+steps_last s b call reply step = rw (past_last s.pages, last_there s.pages b) step
 
 state_last : (s : PagedState) → state_on s (length s.pages) ≡ empty_page s
 state_last s = rw (past_last s.pages) refl
@@ -280,15 +266,6 @@ nothing_on pages idle page id = elim (slice_get_cases pages page).1 [
       rw (found.2, none) refl
   | inr past ↦ rw past.1 refl
 ]
-
--- On a page that isn't there no id has a box, and nothing changes.
-pub leaves_off_pages : (pages : List AtlasValue) (page id : ℕ) → length pages ≤ page → LeavesNoBoxOn pages pages page id
-leaves_off_pages pages page id past = record {
-  leaves = λ s t was is. absurd (let some : None ≡ Some s = sym (slice_get_past pages page past) ∙ was in cc);
-  others = λ k other. refl;
-  gone = let none = slice_get_past pages page past in rw none refl;
-  same = λ k i other. refl;
-}
 
 -- A request to a page, and what is told of it.
 abbrev Answer : Type 0
@@ -475,9 +452,6 @@ module _ (s : PagedState) (new : List AtlasValue) (page : ℕ) where
       → OnErr r (record s { pages = new } ≡ s)
   growth_changes_nothing (Ok x) same = tt
   growth_changes_nothing (Err e) same = ap (λ (l : List AtlasValue). record s { pages = l }) same
-
-pub no_rectangle_off : (pages : List AtlasValue) (page id : ℕ) → length pages ≤ page → rectangle_on pages page id ≡ None
-no_rectangle_off pages page id past = let none = slice_get_past pages page past in rw none refl
 
 pub holds_on_ok : (r : Result (Unit {0}) PagesError) (P : Type 0) → P → OnOk r P
 holds_on_ok (Ok x) P holds = holds

@@ -1,6 +1,6 @@
 -- Pages of a texture array that come where no other has room, and go where nothing is on them.
 use Rattle.std.specs.Prelude.{◌≡◌, ◌≢◌, ◌⊎◌, ◌+◌, ◌<◌, ◌≤◌, ◌<ℤ◌, ℕ, List, [], ◌∷◌, ◌++◌}
-use Rattle.std.specs.Prelude.{Option, Result, Ok, Err, None, Some, IfOk, IfSome, OnErr, length, map, slice_get}
+use Rattle.std.specs.Prelude.{Option, Result, Ok, Err, None, Some, IfOk, IfSome, OnErr, length, slice_get}
 use Rattle.guillotiere.specs.declared.Allocation.{Allocation}
 use Rattle.guillotiere.specs.declared.AllocatorOptions.{AllocatorOptions}
 use Rattle.guillotiere.specs.declared.AtlasError.{AtlasError}
@@ -11,7 +11,7 @@ use Rattle.guillotiere.specs.Boxes.{Fits, IsPositive, Sides}
 use Rattle.guillotiere.specs.Callers.{AddsBox, HasFrame, IsGranted, KeepsAll}
 use Rattle.guillotiere.specs.Choice.{AreValid, HasNoRoom, Options}
 use Rattle.guillotiere.specs.Pages.{AddsBoxOn, HasSameRectangles, IsAnswerOn, KeepsPages, NoneHasRoomBelow}
-use Rattle.guillotiere.specs.Pixels.{box_of, options_of, sides_of, size_of}
+use Rattle.guillotiere.specs.Pixels.{box_of, options_of, sides_of}
 use Rattle.guillotiere.specs.Replies.{allocate_reply, grant_of, IsExact}
 use Rattle.guillotiere.specs.States.{State, free_in, live_in, started}
 use Rattle.guillotiere.specs.Steps.{AtlasCall, AtlasReply, Step}
@@ -118,13 +118,6 @@ pub record IsRefusedOn (request : Size) (s : PagedState) (error : AtlasError) : 
   pub first : NoneHasRoomBelow request s.pages page
   pub why :
       StepsOn s s page (Allocate (sides_of request)) (Refused error) ⊎ (length s.pages ≡ page) × (error ≡ Memory)
-
--- The size of a page, in pixels.
-abbrev pub size_of_page : AtlasValue → Size
-size_of_page s = size_of (state_of s).size
-
-abbrev pub page_sizes : List AtlasValue → List Size
-page_sizes pages = map size_of_page pages
 
 -- A page gets this size; no rectangle moves, and the other pages stay as they are.
 pub record GrowsOn (old new : List AtlasValue) (page : ℕ) (size : Size) : Type 0 where

@@ -4,7 +4,7 @@ ghost use Rattle.std.specs.Prelude.{IfErr, IfOk, IfSome, IsOkUnless, IsSome, Non
 ghost use Rattle.guillotiere.specs.Boxes.{IsPositive};
 ghost use Rattle.guillotiere.specs.Callers.{IsShortage};
 ghost use Rattle.guillotiere.specs.Choice.{AreValid};
-ghost use Rattle.guillotiere.specs.Pages.{rectangle_on, AddsBoxOn, AllLieApartOn, AllLieWithinOn};
+ghost use Rattle.guillotiere.specs.Pages.{page_sizes, rectangle_on, size_of_page, AddsBoxOn, AllLieApartOn, AllLieWithinOn};
 ghost use Rattle.guillotiere.specs.Pages.{HasSameRectangles, LeavesNoBoxOn, NoneHasRoomBelow};
 ghost use Rattle.guillotiere.specs.Pixels.{box_of, options_of, sides_of};
 ghost use Rattle.guillotiere.specs.Steps.AtlasCall.{Allocate, Clear, Deallocate, Grow};
@@ -12,7 +12,7 @@ ghost use Rattle.guillotiere.specs.Steps.AtlasReply.{Allocated, Done, Refused};
 ghost use Rattle.guillotiere.specs.Stored.{AtlasValue};
 ghost use Rattle.guillotiere.specs.Trees.{grant};
 ghost use Rattle.guillotiere.specs.TheConstants.{DEFAULT_OPTIONS};
-ghost use Rattle.atlas_pages.specs.Paged.{page_sizes, size_of_page, AreIdleAmong, AreSpent, GrowsOn, IsGrantedOn};
+ghost use Rattle.atlas_pages.specs.Paged.{AreIdleAmong, AreSpent, GrowsOn, IsGrantedOn};
 ghost use Rattle.atlas_pages.specs.Paged.{IsGrowthFault, IsLastBusy, IsOptionsFault, IsRefusedOn, KeepsPaged, KeepsSettings};
 ghost use Rattle.atlas_pages.specs.Paged.{StepsOn, told};
 
@@ -209,7 +209,7 @@ impl<A: Allocator + Copy> PagedAtlas<A> {
         }
     }
 
-    // The same on a page that is added.
+    // Grants a request that no page has room for, on a page that is added; None if there are as many as there may be.
     fn allocate_anew(&mut self, size: Size) -> Result<Option<PageAllocation>, AtlasError>
         requires { NoneHasRoomBelow size self.old.pages (length self.old.pages) }
         ensures step { IfOk result (λ granted. IfSome granted (λ a.

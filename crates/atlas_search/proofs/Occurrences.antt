@@ -1,7 +1,7 @@
 -- How often an entry stands in a list.
-use Rattle.std.proofs.Common.{ℕ, zero, suc, ◌+◌, ◌<◌, ◌≤◌, ◌≡◌, List, [], ◌∷◌, refl, sym, ap, ◌∙◌, ◌⊎◌, inl, inr, arith, eqb, length}
+use Rattle.std.proofs.Common.{ℕ, zero, suc, ◌+◌, ◌<◌, ◌≤◌, ◌≡◌, List, [], ◌∷◌, refl, sym, ap, arith, eqb, length}
 use Rattle.std.proofs.lemmas.Bool.{eq-eqb, ne_eqb, cond-false}
-use Rattle.atlas_search.specs.Numbers.{no_slot, occurs, without, front, same}
+use Rattle.atlas_search.specs.Numbers.{occurs, without, front, same}
 
 pub same-self : (i : ℕ) → same i i ≡ 1
 same-self i = rw (eq-eqb i i refl)
@@ -14,16 +14,6 @@ ne-from_occurs i j xs z l e = absurd (omega (arith, ap (λ x. occurs x xs) e))
 
 pub ne-from_same : (i j : ℕ) → same i j ≡ 0 → j ≡ i → ⊥
 ne-from_same i j z e = absurd (omega (arith, same-self i, ap (λ x. same i x) e))
-
-pub front_in : (xs : List ℕ) → (front xs ≡ no_slot) ⊎ (0 < occurs (front xs) xs)
-front_in [] = inl refl
-front_in (x ∷ xs) = inr (omega (arith, same-self x))
-
-pub front_of : (m x : ℕ) (xs : List ℕ) → m ≡ front xs → (m ≡ no_slot) ⊎ (0 < occurs m (x ∷ xs))
-front_of m x xs e = elim (front_in xs) [ inl z ↦ inl (e ∙ z) | inr y ↦ inr (omega (arith, ap (λ v. occurs v xs) e)) ]
-
-pub is_first : (m x : ℕ) (xs : List ℕ) → m ≡ x → 0 < occurs m (x ∷ xs)
-is_first m x xs e = omega (arith, same-self x, ap (λ v. same v x) e)
 
 pub front-without : (i : ℕ) (xs : List ℕ) → (front xs ≡ i → ⊥) → front (without i xs) ≡ front xs
 front-without i [] ne = refl
@@ -50,3 +40,7 @@ length-distinct zero [] once inside = omega arith
 length-distinct zero (x ∷ xs) once inside = let y : x < 0 = inside x (omega (arith, same-self x)) in absurd (omega arith)
 length-distinct (suc n) xs once inside =
     grind (arith, length-distinct n (without n xs), occurs-without, same-self, length-without, length-distinct n xs once, ne-from_occurs)
+
+-- What is there once isn't there without it.
+pub gone-from : (i : ℕ) (xs : List ℕ) → 0 < occurs i xs → occurs i xs ≤ 1 → occurs i (without i xs) ≡ 0
+gone-from i xs l o = omega (arith, occurs-without i xs l i, same-self i, o)

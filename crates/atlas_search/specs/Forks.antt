@@ -47,6 +47,15 @@ pub record IsIn (s : Sides) (c : Cell) : Type 0 where
   pub top : c.top ≤ s.height
   pub bottom : s.height < c.bottom
 
+-- A size is before the end of the widths, or before that of the heights.
+abbrev pub is_before_end : (is_wide : Bool) → Sides → Cell → Bool
+is_before_end true s c = nat_lt s.width c.right
+is_before_end false s c = nat_lt s.height c.bottom
+
+-- Both sides of a size, and so much more, are before the first ones.
+abbrev pub is_beyond : Sides → (more : ℕ) → Cell → Bool
+is_beyond s more c = nat_lt (s.width + more) c.left && nat_lt (s.height + more) c.top
+
 -- A cell has more than one size.
 abbrev pub IsSplit : Cell → Type 0
 IsSplit c = (1 < c.right - c.left) ⊎ (1 < c.bottom - c.top)

@@ -22,7 +22,7 @@ pub record KeepsKinds (es fs : List Item) : Type 0 where
   pub forks : (k : ℕ) → (item_at fs k).is_fork ≡ (item_at es k).is_fork
 
 -- One entry has these links, and nothing else changed.
-pub record IsLinked (es fs : List Item) (at up left right : ℕ) : Type 0 where
+pub record IsRelinked (es fs : List Item) (at up left right : ℕ) : Type 0 where
   pub long : length fs ≡ length es
   pub here : item_at fs at ≡ linked (item_at es at) up left right
   pub others : (k : ℕ) → k ≢ at → item_at fs k ≡ item_at es k
@@ -48,7 +48,7 @@ pub record IsSoundHeap (es : List Item) (up top : ℕ) (h : Heap) : Type 0 where
   pub exact : (k : ℕ) → 0 < occurs k (members h) → IsSolid (item_at es k).area
 
 -- Two heaps that aren't empty have no entry in common, and all have exact rectangles.
-pub record AreApart (es : List Item) (up one : ℕ) (g : Heap) (under other : ℕ) (h : Heap) : Type 0 where
+pub record AreSeparate (es : List Item) (up one : ℕ) (g : Heap) (under other : ℕ) (h : Heap) : Type 0 where
   pub short : length es ≤ no_slot
   pub heap : IsHeap es up one g
   pub part : IsHeap es under other h

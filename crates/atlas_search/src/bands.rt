@@ -182,7 +182,7 @@ impl Scale {
         }
     }
 
-    /// The same again.
+    /// A scale of these options too.
     pub fn copy(&self) -> Scale
         ensures { result ≡ self.now }
     {

@@ -1,10 +1,11 @@
 //! The best free box that a search was shown.
 ghost use Rattle.std.specs.Prelude.{◌≡◌, ◌≢◌, ◌<◌, ◌≤◌, ◌++◌, ◌∷◌, [], ℕ, Bool, List, pos};
-ghost use Rattle.std.specs.Prelude.{◌+◌, ◌<ℤ◌, ◌≤ℤ◌, ◌↔◌, IsTrue, IfSome, None, Contains, false, true};
+ghost use Rattle.std.specs.Prelude.{◌+◌, ◌<ℤ◌, ◌≤ℤ◌, ◌↔◌, ◌&&◌, not, IsTrue, IfSome, None, Contains, false, true};
 ghost use Rattle.std.specs.Int.{cast_unsigned, w32};
 ghost use Rattle.atlas_model.specs.Boxes.{Box, IsNonempty, IsPositive, Sides, box_sides};
 ghost use Rattle.atlas_model.specs.Choice.{ComesFirst};
 ghost use Rattle.atlas_model.specs.Pixels.{box_of, natural, sides_of};
+ghost use Rattle.atlas_search.specs.Forks.{is_before_end, is_beyond};
 ghost use Rattle.atlas_search.specs.Ranks.{corner_of, flip_of, no_corner, no_rank, rank_of, IsReach};
 ghost use Rattle.atlas_search.specs.Rectangles.{IsUnsigned};
 
@@ -249,7 +250,8 @@ impl Best {
     /// Whether the request may fit a box of a size in this cell, by the widths there alone, or by the heights.
     #[inline(always)]
     pub fn may_fit_by(&self, cell: Cell, is_wide: bool) -> bool
-        ensures { result ≡ false → IsOut self.now cell }
+        ensures exact { result ≡ is_before_end is_wide (sides_of self.now.size) cell }
+        ensures out { result ≡ false → IsOut self.now cell }
     {
         cell.is_before_end(self.size, is_wide)
     }
@@ -257,7 +259,9 @@ impl Best {
     /// Whether the request may fit a box of a size in this cell.
     #[inline(always)]
     pub fn may_fit_in(&self, cell: Cell) -> bool
-        ensures { result ≡ false → IsOut self.now cell }
+        ensures exact { result
+            ≡ (is_before_end true (sides_of self.now.size) cell && is_before_end false (sides_of self.now.size) cell) }
+        ensures out { result ≡ false → IsOut self.now cell }
     {
         self.may_fit_by(cell, true) && self.may_fit_by(cell, false)
     }
@@ -266,7 +270,8 @@ impl Best {
     /// has no equal side.
     #[inline(always)]
     pub fn may_gain_in(&self, cell: Cell) -> bool
-        ensures { result ≡ false → IsOut self.now cell }
+        ensures exact { result ≡ not (is_beyond (sides_of self.now.size) self.now.reach cell) }
+        ensures out { result ≡ false → IsOut self.now cell }
     {
         !cell.is_beyond(self.size, self.reach)
     }

@@ -2,7 +2,8 @@
 ghost use Rattle.std.specs.Prelude.{◌≡◌, ◌+◌, ◌*◌, ◌/◌, ◌<◌, ◌≤◌, ◌⊎◌, true, false};
 ghost use Rattle.atlas_model.specs.Boxes.{IsPositive};
 ghost use Rattle.atlas_model.specs.Pixels.{sides_of};
-ghost use Rattle.atlas_search.specs.Forks.{IsCell, IsIn, cell_of, end_of, first_of, half, high_by, is_cut_wide, low_by, middle};
+ghost use Rattle.atlas_search.specs.Forks.{IsCell, IsIn, cell_of, end_of, first_of, half, high_by, is_before_end, is_beyond, is_cut_wide};
+ghost use Rattle.atlas_search.specs.Forks.{low_by, middle};
 
 use atlas_model::Size;
 
@@ -105,7 +106,7 @@ impl Cell {
     #[inline(always)]
     pub fn is_before_end(self, size: Size, is_wide: bool) -> bool
         requires { IsPositive (sides_of size) }
-        ensures { result ≡ false → (self.right ≤ (sides_of size).width) ⊎ (self.bottom ≤ (sides_of size).height) }
+        ensures { result ≡ is_before_end is_wide (sides_of size) self }
     {
         if is_wide {
             (size.width as u32) < self.right
@@ -118,7 +119,7 @@ impl Cell {
     #[inline(always)]
     pub fn is_beyond(self, size: Size, more: u32) -> bool
         requires { IsPositive (sides_of size) }
-        ensures { result ≡ true → ((sides_of size).width + more < self.left) × ((sides_of size).height + more < self.top) }
+        ensures { result ≡ is_beyond (sides_of size) more self }
     {
         let width = size.width as u32 as u64 + more as u64;
         let height = size.height as u32 as u64 + more as u64;

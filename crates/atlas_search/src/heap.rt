@@ -4,8 +4,8 @@ ghost use Rattle.atlas_model.specs.Boxes.{IsPositive};
 ghost use Rattle.atlas_model.specs.Choice.{ComesFirst};
 ghost use Rattle.atlas_model.specs.Pixels.{sides_of};
 ghost use Rattle.atlas_search.specs.Heaps.{Heap, IsAbove, IsHeap, members};
-ghost use Rattle.atlas_search.specs.HeapCalls.{AreApart, ArePartsBelow, CanPush, CanRemove, HasPushed};
-ghost use Rattle.atlas_search.specs.HeapCalls.{HasRemoved, IsHungLeft, IsLinked, IsMelded, IsPut};
+ghost use Rattle.atlas_search.specs.HeapCalls.{AreSeparate, ArePartsBelow, CanPush, CanRemove, HasPushed};
+ghost use Rattle.atlas_search.specs.HeapCalls.{HasRemoved, IsHungLeft, IsRelinked, IsMelded, IsPut};
 ghost use Rattle.atlas_search.specs.HeapCalls.{KeepsAreas, KeepsKinds};
 ghost use Rattle.atlas_search.specs.Items.{forked, item_at, item_box, item_sides, linked};
 ghost use Rattle.atlas_search.specs.Numbers.{no_slot, occurs};
@@ -116,7 +116,7 @@ fn hang_left<E: Linked>(entries: &mut [E], above: Link, less: Link)
 #[inline(always)]
 fn swap_below<E: Linked>(entries: &mut [E], above: Link)
     requires { above.number < length entries.old }
-    ensures swapped { IsLinked (map E.item entries.old) (map E.item entries.new) above.number
+    ensures swapped { IsRelinked (map E.item entries.old) (map E.item entries.new) above.number
         (item_at (map E.item entries.old) above.number).up (item_at (map E.item entries.old) above.number).right
         (item_at (map E.item entries.old) above.number).left }
     ensures bare { map E.bare entries.new ≡ map E.bare entries.old }
@@ -129,10 +129,10 @@ fn swap_below<E: Linked>(entries: &mut [E], above: Link)
 // right, and the next one left.
 fn hang<E: Linked>(entries: &mut [E], top: Link, part: Link)
     requires { (up : ℕ) × (g : Heap) × (under : ℕ) × (h : Heap)
-        × AreApart (map E.item entries.old) up top.number g under part.number h
+        × AreSeparate (map E.item entries.old) up top.number g under part.number h
         × IsAbove (map E.item entries.old) top.number h }
     ensures hung { (up : ℕ) (g : Heap) (under : ℕ) (h : Heap)
-        → AreApart (map E.item entries.old) up top.number g under part.number h
+        → AreSeparate (map E.item entries.old) up top.number g under part.number h
         → IsAbove (map E.item entries.old) top.number h
         → IsMelded (map E.item entries.old) (map E.item entries.new) up top.number g h }
     ensures areas { KeepsKinds (map E.item entries.old) (map E.item entries.new) }
@@ -164,9 +164,9 @@ fn hang<E: Linked>(entries: &mut [E], top: Link, part: Link)
 #[inline(never)]
 fn meld<E: Linked>(entries: &mut [E], one: Link, other: Link, up: Link) -> Link
     requires { (under : ℕ) × (g : Heap) × (h : Heap)
-        × AreApart (map E.item entries.old) under one.number g under other.number h }
+        × AreSeparate (map E.item entries.old) under one.number g under other.number h }
     ensures melded { (under : ℕ) (g h : Heap)
-        → AreApart (map E.item entries.old) under one.number g under other.number h
+        → AreSeparate (map E.item entries.old) under one.number g under other.number h
         → IsMelded (map E.item entries.old) (map E.item entries.new) up.number result.number g h }
     ensures areas { KeepsKinds (map E.item entries.old) (map E.item entries.new) }
     ensures bare { map E.bare entries.new ≡ map E.bare entries.old }

@@ -1,11 +1,12 @@
 -- Sprites that have room in an empty sheet: one of them finds it.
-use Rattle.std.proofs.Common.{◌≡◌, ◌+◌, ◌*◌, ◌<◌, ◌≤◌, ℕ, zero, suc, Bool, true, false, ◌&&◌, List, [], ◌∷◌, length, get_or, All, Option}
+use Rattle.std.proofs.Common.{◌≡◌, ◌+◌, ◌*◌, ◌<◌, ◌≤◌, ℕ, zero, suc, List, [], ◌∷◌, length, get_or, All, Option}
 use Rattle.std.proofs.Common.{Some, None, IsNone, IsTrue, refl, ap, sym, subst, arith}
 use Rattle.std.specs.List.{enumerate_from}
-use Rattle.std.proofs.lemmas.Bool.{false≢true, leb-true}
+use Rattle.std.proofs.lemmas.Bool.{leb-true, and_parts}
 use Rattle.std.proofs.lemmas.List.Elements.{All-head, All-tail}
 use Rattle.std.proofs.lemmas.List.Sums.{sum_by-cons}
 use Rattle.std.proofs.lemmas.List.Sorted.{length_permutation}
+use Rattle.std.proofs.lemmas.List.FromFn.{length-enumerate_from}
 use Rattle.guillotiere.specs.declared.Size.{Size}
 use Rattle.guillotiere.specs.declared.Rectangle.{Rectangle}
 use Rattle.guillotiere.specs.Boxes.{Sides, Fits, whole_box}
@@ -46,10 +47,6 @@ part_area (q ∷ places) (suc k) p is =
     let all : used_area (q ∷ places) ≡ place_area q + used_area places = sum_by-cons place_area q places in
     let later = part_area places k p is in
     omega (arith, all, later)
-
-and_parts : (x y : Bool) → (x && y) ≡ true → (x ≡ true) × (y ≡ true)
-and_parts true y e = (refl, e)
-and_parts false y e = absurd (false≢true e)
 
 some_product : (a b : ℕ) → 0 < a → 0 < b → 0 < a * b
 some_product (suc a) (suc b) c d = omega arith
@@ -107,10 +104,6 @@ module _ (sheet : Sides) (spacing : Spacing) (choice : Choice) where
       finds_room s.1 others s.0 (All-head (λ s. IsPackable spacing s.1) s order packs)
       (All-head (λ s. IsTrue (has_room sheet spacing s.1)) s order room) found.0 found.1
 
-numbered_long : (n : ℕ) (xs : List Size) → length (enumerate_from n xs) ≡ length xs
-numbered_long n [] = refl
-numbered_long n (x ∷ xs) = ap suc (numbered_long (n + 1) xs)
-
 -- A way finds a place for one of some sprites that each have room.
 pub room_found : (sheet : Sides) (spacing : Spacing) (sprites : List Size) (way : Way) (order : List (ℕ × Size))
     (others : List (Option Rectangle))
@@ -118,7 +111,7 @@ pub room_found : (sheet : Sides) (spacing : Spacing) (sprites : List Size) (way 
     → All (λ s. IsTrue (has_room sheet spacing s)) sprites → 0 < used_area others
 room_found sheet spacing sprites way order others are some packs room =
     let listed : length order ≡ length (enumerate_from 0 sprites) = length_permutation (enumerate_from 0 sprites) order are.permuted in
-    let numbers : length (enumerate_from 0 sprites) ≡ length sprites = numbered_long 0 sprites in
+    let numbers : length (enumerate_from 0 sprites) ≡ length sprites = length-enumerate_from 0 sprites in
     first_asks sheet spacing way.choice others order (omega (arith, listed, numbers, some))
     (order_all sprites order are.permuted (IsPackable spacing) packs)
     (order_all sprites order are.permuted (λ s. IsTrue (has_room sheet spacing s)) room) are.found

@@ -2,7 +2,7 @@
 use Rattle.std.proofs.Common.{◌≡◌, ◌≢◌, ◌==◌, ◌||◌, ◌+◌, ◌<◌, ◌≤◌, ◌⊎◌, ℕ, zero, suc, Bool, true, false, inl, inr, List, [], ◌∷◌, length}
 use Rattle.std.proofs.Common.{replicate, take, get_or, All, Option, Some, None, refl, ap, sym, subst, ◌∙◌, arith}
 use Rattle.std.specs.List.{AllZip, slice_get}
-use Rattle.std.proofs.lemmas.Bool.{cases_eq, eq-eqb, eqb-true, false≢true}
+use Rattle.std.proofs.lemmas.Bool.{cases_eq, eq-eqb, eqb-true, false≢true, or_left, or_right}
 use Rattle.std.proofs.lemmas.List.Elements.{All-nil}
 use Rattle.std.proofs.lemmas.Option.{get_or_from_slice_get}
 use Rattle.guillotiere.specs.declared.Size.{Size}
@@ -128,14 +128,6 @@ left_still o sprites groups first there more still g (inr left) = inr (record {
   earlier = λ n on. let e = left.earlier n on in (still n e.0, e.1);
   many = left.many;
 })
-
-or_left : (a b : Bool) → a ≡ true → (a || b) ≡ true
-or_left true b on = refl
-or_left false b on = absurd (false≢true on)
-
-or_right : (a b : Bool) → b ≡ true → (a || b) ≡ true
-or_right true b on = refl
-or_right false b on = on
 
 or_parts : (a b : Bool) → (a || b) ≡ true → (a ≡ true) ⊎ (b ≡ true)
 or_parts true b on = inl refl

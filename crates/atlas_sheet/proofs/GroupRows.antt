@@ -1,5 +1,5 @@
 -- Rows, and what stands in lists where they say so.
-use Rattle.std.proofs.Common.{◌≡◌, ◌≢◌, ◌==◌, ◌||◌, ◌+◌, ◌<◌, ◌≤◌, ◌⊎◌, ℕ, zero, suc, Bool, true, false, cond, is_none, is_some, inl, inr}
+use Rattle.std.proofs.Common.{◌≡◌, ◌≢◌, ◌==◌, ◌||◌, ◌+◌, ◌<◌, ◌≤◌, ◌⊎◌, ℕ, suc, Bool, true, false, cond, is_none, is_some, inl, inr}
 use Rattle.std.proofs.Common.{List, [], ◌∷◌, ◌++◌, length, map, drop, take, get_or, append-nil, add-one, All, Option, Some, None, IfSome}
 use Rattle.std.proofs.Common.{IsSome, refl, ap, sym, subst, ◌∙◌, arith}
 use Rattle.std.specs.List.{AllZip}
@@ -16,15 +16,11 @@ use Rattle.atlas_sheet.specs.declared.placed.Placed.{Placed}
 use Rattle.atlas_sheet.specs.Grouping.{HasMember, IsClosed, SaysOf, is_in, picked, spread, those_placed, waiting, with_one}
 use Rattle.atlas_sheet.specs.Settings.{CanPack, spacing_of}
 use Rattle.atlas_sheet.specs.Sheets.{IsPackable}
+use Rattle.atlas_sheet.proofs.Arrangements.{zip_at}
 
 -- What was picked by the first k, and what is picked by the others.
 abbrev pub IsPickedTo : {X : Type 0} → List Bool → List X → (k : ℕ) → List X → Type 0
 IsPickedTo row xs k all = picked row xs ≡ all ++ picked (drop k row) (drop k xs)
-
-pub picked_end : {X : Type 0} (row : List Bool) (xs : List X) (k : ℕ) (all : List X) → length row ≤ k
-    → IsPickedTo row xs k all → all ≡ picked row xs
-picked_end row xs k all end so =
-    sym (so ∙ ap (λ r. all ++ picked r (drop k xs)) (drop_of_length-le row end) ∙ append-nil all)
 
 module _ {X : Type 0} (row : List Bool) (xs : List X) (k : ℕ) (all more : List X) (b : Bool) (x : X) (inside : k < length row)
     (long : length row ≡ length xs) (b_at : b ≡ get_or row k b) (x_at : x ≡ get_or xs k x) (so : IsPickedTo row xs k all) where
@@ -50,12 +46,6 @@ module _ {X : Type 0} (row : List Bool) (xs : List X) (k : ℕ) (all more : List
 -- What waits of the first k, and what waits of the others.
 abbrev pub IsWaitingTo : List (Option ℕ) → List (Option OnPage) → (k : ℕ) → List (Option ℕ) → Type 0
 IsWaitingTo groups places k all = waiting groups places ≡ all ++ waiting (drop k groups) (drop k places)
-
-pub waiting_end : (groups : List (Option ℕ)) (places : List (Option OnPage)) (k : ℕ) (all : List (Option ℕ))
-    → length places ≤ k
-    → IsWaitingTo groups places k all → all ≡ waiting groups places
-waiting_end groups places k all end so =
-    sym (so ∙ ap (λ ps. all ++ waiting (drop k groups) ps) (drop_of_length-le places end) ∙ append-nil all)
 
 module _ (groups : List (Option ℕ)) (places : List (Option OnPage)) (k : ℕ) (all more : List (Option ℕ)) (q : Option OnPage) (g : Option ℕ)
     (inside : k < length places) (long : length places ≡ length groups) (q_at : q ≡ get_or places k q) (g_at : g ≡ get_or groups k g)
@@ -150,26 +140,10 @@ module _ (row : List Bool) (found : List (Option Placed)) (long : length found �
   pub spread_sprites : (sprites : List Size) → those_placed (spread row found) sprites ≡ picked row sprites
   spread_sprites sprites = ap (λ r. picked r sprites) (spread_row row found long all)
 
--- What holds of two lists, place by place.
-zip_at : {X Y : Type 0} (R : X → Y → Type 0) (xs : List X) (ys : List Y) (k : ℕ) (d : X) (e : Y) → AllZip R xs ys
-    → k < length xs
-    → R (get_or xs k d) (get_or ys k e)
-zip_at R [] ys k d e each inside = absurd (omega (arith, inside))
-zip_at R (x ∷ xs) [] k d e each inside = absurd each
-zip_at R (x ∷ xs) (y ∷ ys) zero d e each inside = each.0
-zip_at R (x ∷ xs) (y ∷ ys) (suc k) d e each inside = zip_at R xs ys k d e each.1 (omega (arith, inside))
-
 -- A row so far says the same of each sprite of a group.
 pub record AreRowsTo (groups : List (Option ℕ)) (row : List Bool) (turned : (ℕ → Bool) → ℕ → Bool) (k : ℕ) (all : List Bool) : Type 0 where
   pub says : (whether : ℕ → Bool) → AllZip (SaysOf whether) groups row
       → AllZip (SaysOf (turned whether)) (take k groups) all
-
-pub rows_begin : (groups : List (Option ℕ)) (row : List Bool) (turned : (ℕ → Bool) → ℕ → Bool) (all : List Bool)
-    → all ≡ []
-    → AreRowsTo groups row turned 0 all
-rows_begin groups row turned all none = record {
-  says = λ whether same. subst (AllZip (SaysOf (turned whether)) (take 0 groups)) (sym none) tt;
-}
 
 module _ (groups : List (Option ℕ)) (row : List Bool) (turned : (ℕ → Bool) → ℕ → Bool) (k : ℕ) (all more : List Bool) (g : Option ℕ)
     (b new : Bool)

@@ -294,18 +294,6 @@ pub record AreSinglesTaken (o : SheetOptions) (sprites : List Size) (groups : Li
   pub row_is : row ≡ chosen_row there taken groups
   pub full : (refused ≡ count_by is_none groups + 1) ⊎ AreTooMany o (picked (chosen_row there refused groups) sprites)
 
-pub singles_begin : (o : SheetOptions) (sprites : List Size) (groups : List (Option ℕ)) (whole row : List Bool) (refused : ℕ)
-    → (there : ℕ → Bool) × AreGroupsThere o sprites groups there × (row ≡ chosen_row there 0 groups)
-    → whole ≡ row → refused ≡ count_by is_none groups + 1
-    → AreSinglesTaken o sprites groups whole 0 refused row
-singles_begin o sprites groups whole row refused has whole_is refused_is = record {
-  there = has.0;
-  groups_there = has.1;
-  whole_is = whole_is ∙ has.2;
-  row_is = has.2;
-  full = inl refused_is;
-}
-
 module _ {o : SheetOptions} {sprites : List Size} {groups : List (Option ℕ)} {whole : List Bool} {taken refused : ℕ} {row : List Bool}
     (so : AreSinglesTaken o sprites groups whole taken refused row) where
   pub singles_more : (many : ℕ) (more : List Bool) → more ≡ chosen_row so.there many groups

@@ -13,7 +13,6 @@ use Rattle.atlas_sheet.specs.declared.turnings.Turning.{Turning}
 use Rattle.atlas_sheet.specs.declared.turnings.Turning.TheVariants as turning
 use Rattle.atlas_sheet.specs.Allowances.{IsGreatest}
 use Rattle.atlas_sheet.specs.Lying.{MayLie, turned_size}
-use Rattle.atlas_sheet.specs.Settings.{spacing_of}
 use Rattle.atlas_sheet.specs.Turnings.{AreLaid, InEach, fitted, has_room, laid, turned_to, turnings}
 use Rattle.atlas_sheet.proofs.TurnedSprites.{lie_again, lie_as_given}
 
@@ -119,9 +118,3 @@ module _ (o : SheetOptions) (sprites : List Size) where
       by_turn : (turn : Bool) → All L (turnings turn) → L turning.AsGiven
       by_turn false each = All-head L turning.AsGiven [] each
       by_turn true each = All-head L turning.AsGiven (turning.Wide ∷ turning.High ∷ []) each
-
-  -- Where none may be turned they are laid as they are given.
-  pub each_as_given : (P : List Size → Type 0) → o.turn ≡ false → InEach o sprites P → P sprites
-  each_as_given P off each =
-      let first = first_laid P each in
-      subst P (first.1.lie ∙ ap (λ b. laid b first.1.sheet (spacing_of o) turning.AsGiven sprites) off) first.2

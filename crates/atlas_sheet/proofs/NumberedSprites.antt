@@ -102,13 +102,6 @@ numbers_order sprites order moved =
     subst (λ ns. IsPermutation ns (map (λ s. s.0) order)) (numbers_from 0 sprites)
     (IsPermutation-map (λ (s : ℕ × Size). s.0) (enumerate_from 0 sprites) order moved)
 
-pub sorted_order : (sprites : List Size) (numbered order : List (ℕ × Size)) (numbers : List ℕ)
-    → numbered ≡ enumerate_from 0 sprites
-    → IsPermutation numbered order → numbers ≡ map (λ s. s.0) order → IsOrder (length sprites) numbers
-sorted_order sprites numbered order numbers all moved are =
-    subst (IsOrder (length sprites)) (sym are)
-    (numbers_order sprites order (subst (λ xs. IsPermutation xs order) all moved))
-
 -- A sheet shows an order of all its sprites.
 pub shown_order : (sheet : Sides) (spacing : Spacing) (turn : Bool) (sprites : List Size) (order : List ℕ)
     (placed : List (Option Placed))

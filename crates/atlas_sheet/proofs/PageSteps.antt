@@ -235,16 +235,6 @@ put_end page places found k next all end so =
 abbrev pub IsLeftTo : List Size → List (Option OnPage) → (k : ℕ) → List Size → Type 0
 IsLeftTo sprites places k left = sprites_left sprites places ≡ left ++ sprites_left (drop k sprites) (drop k places)
 
-pub left_end : (sprites : List Size) (places : List (Option OnPage)) (k : ℕ) (left : List Size) → length places ≤ k
-    → IsLeftTo sprites places k left → left ≡ sprites_left sprites places
-left_end sprites places k left end so =
-    sym (so ∙ ap (λ ps. left ++ sprites_left (drop k sprites) ps) (drop_of_length-le places end) ∙
-    ap (λ xs. left ++ xs) (no_places (drop k sprites)) ∙ append-nil left)
-  where
-    no_places : (sprites : List Size) → sprites_left sprites [] ≡ []
-    no_places [] = refl
-    no_places (s ∷ sprites) = refl
-
 module _ (sprites : List Size) (places : List (Option OnPage)) (k : ℕ) (left more : List Size) (s : Size) (q : Option OnPage)
     (inside : k < length places) (long : length places ≡ length sprites) (s_at : s ≡ get_or sprites k s) (q_at : q ≡ get_or places k q)
     (so : IsLeftTo sprites places k left) where

@@ -1,5 +1,5 @@
 -- The sizes of a row, each a pixel higher than the one before it.
-use Rattle.std.proofs.Common.{◌≡◌, ◌+◌, ◌-◌, ◌<◌, ◌≤◌, ℕ, ℤ, true, List, Option, Some, None, IfNone, IfSome, MatchOption, is_some, arith}
+use Rattle.std.proofs.Common.{◌≡◌, ◌+◌, ◌-◌, ◌<◌, ◌≤◌, ℕ, true, List, Option, Some, None, IfNone, IfSome, MatchOption, is_some, arith}
 use Rattle.std.proofs.Common.{sym, subst, refl}
 use Rattle.guillotiere.specs.declared.Size.{Size}
 use Rattle.guillotiere.specs.Boxes.{Sides, Fits, IsPositive}
@@ -8,7 +8,7 @@ use Rattle.atlas_sheet.specs.declared.options.Spacing.{Spacing}
 use Rattle.atlas_sheet.specs.declared.allowed.Allowed.{Allowed}
 use Rattle.atlas_sheet.specs.declared.allowed.Allowed.TheVariants as allowed
 use Rattle.atlas_sheet.specs.declared.ways.Way.{Way}
-use Rattle.atlas_sheet.specs.Allowances.{ComesBefore, IsAllowed, IsGreatest, IsRow, IsUsable, greatest_sides, nth_sides, row_length}
+use Rattle.atlas_sheet.specs.Allowances.{ComesBefore, IsAllowed, IsRow, IsUsable, nth_sides, row_length}
 use Rattle.atlas_sheet.specs.Packings.{ArePacked, Packed, IsLeastFound, NoWayPacks, NoneIsFound}
 
 -- Each of its sizes is allowed.
@@ -144,29 +144,6 @@ module _ {T : Type 0} (sides : T → Sides) (packed : T → Packed) (ways : List
       let last : high ≡ row_length by = going.known in
       row_none ways by spacing sprites row usable low some (omega arith) going.fails
   ended_none (Some sheet) going = tt
-
--- What isn't given by powers of two is a row.
-pub row_of : (by : Allowed) → ((greatest : ℤ) → by ≡ allowed.Powers greatest → ⊥) → IsRow by
-row_of (allowed.One size) other = tt
-row_of (allowed.Squares least greatest) other = tt
-row_of (allowed.Powers greatest) other = absurd (other greatest refl)
-row_of (allowed.Heights width greatest) other = tt
-
--- The greatest sheet of a row.
-pub row_greatest : (by : Allowed) → IsRow by → IsUsable by → IsGreatest by (greatest_sides by)
-row_greatest (allowed.One size) row usable = record {
-  allowed = record { least = usable.1; greatest = (omega arith, omega arith); shape = tt };
-  greatest = λ s is. is.greatest;
-}
-row_greatest (allowed.Squares least greatest) row usable = record {
-  allowed = record { least = usable.1; greatest = (omega arith, omega arith); shape = refl };
-  greatest = λ s is. is.greatest;
-}
-row_greatest (allowed.Powers greatest) row usable = absurd row
-row_greatest (allowed.Heights width greatest) row usable = record {
-  allowed = record { least = usable.1; greatest = (omega arith, omega arith); shape = tt };
-  greatest = λ s is. is.greatest;
-}
 
 -- An allowed sheet isn't empty.
 pub allowed_positive : (by : Allowed) (sheet : Sides) → IsUsable by → IsAllowed by sheet → IsPositive sheet

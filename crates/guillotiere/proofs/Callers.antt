@@ -1,17 +1,18 @@
 -- Lemmas by topic, for callers: `#[tactic(auto, using(guillotiere::proofs::Callers::pages))]` names one topic.
-use Rattle.std.proofs.Common.{◌≡◌, ◌≢◌, ◌<◌, ◌++◌, ◌∷◌, [], ℕ, zero, suc, List, Option, Some, None, length, get_or, slice_get, slice_set}
-use Rattle.std.proofs.Common.{refl, sym, ap, ◌∙◌, subst, subst₂, inl, inr}
+use Rattle.std.proofs.Common.{◌≡◌, ◌≢◌, ◌<◌, ◌≤◌, ◌++◌, ◌∷◌, [], ℕ, zero, suc, List, Option, Some, None, length}
+use Rattle.std.proofs.Common.{get_or, slice_get, slice_set, refl, sym, ap, ◌∙◌, subst, subst₂, inl, inr, ◌==◌}
 use Rattle.std.proofs.Common.{◌↔◌, ◌+◌, arith, Result, Ok, Err, IfOk, IfSome, IsSome, OnErr}
 use Rattle.std.specs.Option.{option_and_then, option_map}
-use Rattle.std.proofs.lemmas.Option.{get_or_from_slice_get, slice_get-get_or}
+use Rattle.std.proofs.lemmas.Option.{get_or_from_slice_get, slice_get-get_or, slice_get_past}
 use Rattle.std.proofs.lemmas.Bool.Decides.{eqb_tells}
+use Rattle.std.specs.List.{find}
 use Rattle.atlas_model.specs.Boxes.{Box}
 use Rattle.atlas_model.specs.declared.allocation.Allocation.{Allocation}
 use Rattle.atlas_model.specs.declared.error.AtlasError.{AtlasError}
 use Rattle.atlas_model.specs.declared.geometry.Rectangle.{Rectangle}
 use Rattle.atlas_model.specs.declared.geometry.Size.{Size}
 use Rattle.atlas_model.specs.Pixels.{box_of, rectangle_of}
-use Rattle.atlas_model.specs.States.{live_in, IsLive}
+use Rattle.atlas_model.specs.States.{live_in, IsLive, State}
 use Rattle.atlas_model.specs.Replies.{live_box, IsExact}
 use Rattle.atlas_model.specs.Callers.{rectangle_in, AddsBox, LeavesNoBox, HasSameBoxes}
 use Rattle.atlas_model.proofs.ListLemmas.CallerLemmas.{slice_get-set_here, slice_get-set_other, slice_set-read}
@@ -19,7 +20,7 @@ use Rattle.atlas_model.proofs.StepLemmas.LiveBoxes.{live_have_boxes}
 use Rattle.atlas_model.proofs.StepLemmas.GivenBack.{grants_are_given_back, many_are_given_back}
 use Rattle.atlas_store.specs.Stored.{AtlasValue, state_of}
 use Rattle.guillotiere.specs.Pages.{rectangle_on, AddsBoxOn, HasRoomFor, NoneHasRoomBelow, HasSameRectangles, LeavesNoBoxOn, OthersHaveSame}
-use Rattle.guillotiere.specs.Pages.{PagesAreGivenBack}
+use Rattle.guillotiere.specs.Pages.{PagesAreGivenBack, KeepsPages}
 
 -- What a look-up on one page reads.
 abbrev on : Option AtlasValue → ℕ → Option Rectangle
@@ -145,6 +146,34 @@ pages_given_back old mid new page id r adds leaves k i = elim (eqb_tells k page)
   ]
   | inr other ↦ leaves.same k i (λ e. absurd (other.1 e)) ∙ adds.same k i (λ e. absurd (other.1 e))
 ]
+
+-- On a page that isn't there no id has a rectangle.
+pub no_rectangle_off : (pages : List AtlasValue) (page id : ℕ) → length pages ≤ page → rectangle_on pages page id ≡ None
+no_rectangle_off pages page id past = let none = slice_get_past pages page past in rw none refl
+
+-- Nor has one a box there that could leave, and nothing changes.
+pub leaves_off_pages : (pages : List AtlasValue) (page id : ℕ) → length pages ≤ page → LeavesNoBoxOn pages pages page id
+leaves_off_pages pages page id past = record {
+  leaves = λ s t was is. absurd (let some : None ≡ Some s = sym (slice_get_past pages page past) ∙ was in cc);
+  others = λ k other. refl;
+  gone = no_rectangle_off pages page id past;
+  same = λ k i other. refl;
+}
+
+-- A page comes last: the others stay.
+pub others_stay : (pages : List AtlasValue) (b : AtlasValue) → KeepsPages pages (pages ++ b ∷ []) (length pages)
+others_stay [] b zero other = absurd (other refl)
+others_stay [] b (suc k) other = refl
+others_stay (p ∷ pages) b zero other = refl
+others_stay (p ∷ pages) b (suc k) other = others_stay pages b k (λ same. other (omega (arith, same)))
+
+pub last_there : {X : Type 0} (xs : List X) (x : X) → slice_get (xs ++ x ∷ []) (length xs) ≡ Some x
+last_there [] x = refl
+last_there (y ∷ xs) x = last_there xs x
+
+-- Where the same is live, each id has the box that it had.
+pub same_boxes : (s t : State) → live_in t ≡ live_in s → HasSameBoxes s t
+same_boxes s t live id = ap (λ gs. option_map (λ g. g.box) (find (λ g. g.id == id) gs)) live
 
 -- Several atlases in a list: what it has once one of them was changed.
 pub ruleset pages = (slice_get-set_here, slice_get-set_other, slice_set-read)

@@ -1,5 +1,5 @@
 -- Several atlases in a list, as pages of a texture array: what a call of one of them does to the list.
-use Rattle.std.specs.Prelude.{◌≡◌, ◌≢◌, ◌<◌, ℕ, List, Option, Some, None, Result, slice_get}
+use Rattle.std.specs.Prelude.{◌≡◌, ◌≢◌, ◌<◌, ℕ, List, Option, Some, None, Result, map, slice_get}
 use Rattle.std.specs.Option.{option_and_then}
 use Rattle.atlas_model.specs.declared.allocation.Allocation.{Allocation}
 use Rattle.atlas_model.specs.declared.error.AtlasError.{AtlasError}
@@ -7,7 +7,7 @@ use Rattle.atlas_model.specs.declared.geometry.Rectangle.{Rectangle}
 use Rattle.atlas_model.specs.declared.geometry.Size.{Size}
 use Rattle.atlas_model.specs.Boxes.{IsWithin}
 use Rattle.atlas_model.specs.Choice.{HasRoom}
-use Rattle.atlas_model.specs.Pixels.{box_of, sides_of}
+use Rattle.atlas_model.specs.Pixels.{box_of, sides_of, size_of}
 use Rattle.atlas_model.specs.States.{free_in}
 use Rattle.atlas_model.specs.Callers.{rectangle_in, AddsBox, IsAnswer, LeavesNoBox, RectanglesLieApart}
 use Rattle.atlas_store.specs.Reserves.{HasReserve, UsesAtMost}
@@ -16,6 +16,14 @@ use Rattle.atlas_store.specs.Stored.{AtlasValue, state_of}
 -- The rectangle of an id that is live on a page.
 abbrev pub rectangle_on : List AtlasValue → (page id : ℕ) → Option Rectangle
 rectangle_on pages page id = option_and_then (λ s. rectangle_in (state_of s) id) (slice_get pages page)
+
+-- The size of a page, in pixels.
+abbrev pub size_of_page : AtlasValue → Size
+size_of_page s = size_of (state_of s).size
+
+-- The sizes of all pages.
+abbrev pub page_sizes : List AtlasValue → List Size
+page_sizes pages = map size_of_page pages
 
 -- Every page but one stays as it is.
 abbrev pub KeepsPages : (old new : List AtlasValue) → (page : ℕ) → Type 0

@@ -3,6 +3,7 @@ use Rattle.std.specs.Prelude.{◌≡◌, ◌≢◌, ◌↔◌, ◌+◌, ◌*◌,
 use Rattle.std.specs.Prelude.{Result, Ok, Err, nat_eq}
 use Rattle.guillotiere.specs.declared.Size.{Size}
 use Rattle.guillotiere.specs.Boxes.{IsPositive}
+use Rattle.guillotiere.specs.Pages.{page_sizes}
 use Rattle.guillotiere.specs.Pixels.{sides_of, size_of}
 use Rattle.guillotiere.specs.Stored.{state_of}
 use Rattle.atlas_cache.specs.declared.CacheError.{CacheError}
@@ -25,7 +26,7 @@ use Rattle.atlas_cache.specs.Refusals.{IsRefusedNew}
 use Rattle.atlas_cache.specs.Relocating.{keys_of, Repacks}
 use Rattle.atlas_cache.specs.Reserving.{AllowSlots, HasReserves, HaveSlots, IsReadyFor, IsShortOfSlots, KeepsPageSizes, UseAtMost}
 use Rattle.atlas_cache.specs.Reserving.{KeepsReady, KeepsReadyButOne}
-use Rattle.atlas_cache.specs.Rooms.{page_sizes, stored_on, IsRefusal}
+use Rattle.atlas_cache.specs.Rooms.{stored_on, IsRefusal}
 use Rattle.atlas_cache.specs.Shrinking.{Shrinks}
 use Rattle.atlas_cache.specs.Telling.{Tells}
 use Rattle.atlas_cache.specs.Walking.{ShowsOlder}

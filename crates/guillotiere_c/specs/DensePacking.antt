@@ -1,5 +1,5 @@
 -- What a packing with no guillotine cuts answers, and what it writes.
-use Rattle.std.specs.Prelude.{◌≡◌, ℕ, ◌≤◌, min, List, length, map, Some}
+use Rattle.std.specs.Prelude.{ℕ, ◌≤◌, min, List, length, map, Some}
 use Rattle.guillotiere.specs.declared.Size.{Size}
 use Rattle.guillotiere.specs.Pixels.{sides_of}
 use Rattle.atlas_sheet.specs.declared.options.SheetOptions.{SheetOptions}

@@ -6,7 +6,7 @@ use Rattle.guillotiere.specs.declared.AtlasError.{AtlasError}
 use Rattle.guillotiere.specs.declared.Size.{Size}
 use Rattle.guillotiere.specs.Boxes.{area}
 use Rattle.guillotiere.specs.Callers.{IsShortage}
-use Rattle.guillotiere.specs.Pages.{rectangle_on, AddsBoxOn, HasSameRectangles, LeavesNoBoxOn, NoneHasRoomBelow}
+use Rattle.guillotiere.specs.Pages.{page_sizes, rectangle_on, AddsBoxOn, HasSameRectangles, LeavesNoBoxOn, NoneHasRoomBelow}
 use Rattle.guillotiere.specs.Pixels.{box_of, sides_of}
 use Rattle.guillotiere.specs.States.{free_in, live_in}
 use Rattle.guillotiere.specs.Steps.AtlasCall.{Allocate, Clear, Deallocate, Grow}
@@ -15,7 +15,7 @@ use Rattle.guillotiere.specs.Stored.{AtlasValue, state_of}
 use Rattle.guillotiere.specs.Trees.{grant}
 use Rattle.atlas_pages.specs.declared.error.PagesError.{PagesError}
 use Rattle.atlas_pages.specs.declared.paged.PageAllocation.{PageAllocation}
-use Rattle.atlas_pages.specs.Paged.{page_sizes, AreIdleAmong, AreSpent, GrowsOn, IsGrantedOn, IsGrowthFault, IsLastBusy, IsRefusedOn}
+use Rattle.atlas_pages.specs.Paged.{AreIdleAmong, AreSpent, GrowsOn, IsGrantedOn, IsGrowthFault, IsLastBusy, IsRefusedOn}
 use Rattle.atlas_pages.specs.Paged.{KeepsSettings, PagedState, StepsOn}
 use Rattle.guillotiere_c.specs.PagedNumbers.{pages_status}
 

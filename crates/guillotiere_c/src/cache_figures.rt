@@ -1,8 +1,8 @@
 //! The exports that report on a cache: how many keys and pages it has, and how it was used.
 ghost use Rattle.std.specs.Prelude.{◌≡◌, ◌≢◌, ◌≤◌, ◌⊎◌, Some, None, IsNone, IsSome, length, slice_get};
+ghost use Rattle.guillotiere.specs.Pages.{page_sizes};
 ghost use Rattle.atlas_cache.specs.Asking.{AreUsable};
 ghost use Rattle.atlas_cache.specs.Repacking.{free_by_page, live_by_page};
-ghost use Rattle.atlas_cache.specs.Rooms.{page_sizes};
 ghost use Rattle.atlas_cache.specs.Usable.{unusable_by_page};
 ghost use Rattle.guillotiere_c.specs.CacheNumbers.{cache_options_in, counts_in};
 ghost use Rattle.guillotiere_c.specs.Following.{HoldsCache};

@@ -3,13 +3,13 @@ ghost use Rattle.std.specs.Prelude.{◌≡◌, ◌≢◌, ◌↔◌, ◌≤◌, 
 ghost use Rattle.std.specs.Prelude.{length, option_map, slice_get, Ok, OnErr, OnOk};
 ghost use Rattle.guillotiere.specs.Boxes.{IsPositive};
 ghost use Rattle.guillotiere.specs.Choice.{AreValid};
-ghost use Rattle.guillotiere.specs.Pages.{rectangle_on, AllLieApartOn, AllLieWithinOn};
+ghost use Rattle.guillotiere.specs.Pages.{rectangle_on, size_of_page, AllLieApartOn, AllLieWithinOn};
 ghost use Rattle.guillotiere.specs.Pixels.{options_of};
 ghost use Rattle.guillotiere.specs.Stored.{state_of};
 ghost use Rattle.guillotiere.specs.TheConstants.{DEFAULT_OPTIONS};
 ghost use Rattle.guillotiere.specs.Visits.{AreGrants};
 ghost use Rattle.guillotiere.specs.declared.Allocation.{Allocation as Granted};
-ghost use Rattle.atlas_pages.specs.Paged.{size_of_page, KeepsPaged};
+ghost use Rattle.atlas_pages.specs.Paged.{KeepsPaged};
 ghost use Rattle.guillotiere_c.specs.Numbers.{allocation_in, allocator_options_in, corners_in, options_in, sides_in, size_in};
 ghost use Rattle.guillotiere_c.specs.PagedCalls.{free_area_of, live_area_of, no_pages, HoldsPaged, IsGrowthRefusal, IsPageClearing};
 ghost use Rattle.guillotiere_c.specs.PagedCalls.{IsPageFreeing, IsPageGrowth, IsPageRequest, IsPageShrinking, PagesGoOver};
@@ -85,8 +85,8 @@ pub extern "C" fn guillotiere_paged_new(
     start(alloc, width, height, &DEFAULT_OPTIONS, most, paged)
 }
 
-/// The same with these options, of the atlas of each page. `DONE`; `BAD_CALL` if a side isn't above 0 or the options aren't
-/// valid; `MEMORY`; `OCCUPIED`, before all others, if the handle holds one already.
+/// Makes a paged atlas as `guillotiere_paged_new` does, the atlas of each page with these options. `DONE`; `BAD_CALL` if a side
+/// isn't above 0 or the options aren't valid; `MEMORY`; `OCCUPIED`, before all others, if the handle holds one already.
 #[unsafe(no_mangle)]
 pub extern "C" fn guillotiere_paged_with_options(
     alloc: Global,

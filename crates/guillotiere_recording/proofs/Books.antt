@@ -24,18 +24,19 @@ use Rattle.guillotiere.proofs.StepLemmas.Existence.{starts_are_sound}
 use Rattle.guillotiere.proofs.StepLemmas.StepEffects.{grants_lie_inside, freeings_remove_one, growths_keep_boxes, rearrangings_lose_nothing}
 use Rattle.guillotiere.proofs.TreeLemmas.TreeBasics.{one_if}
 use Rattle.guillotiere.proofs.TreeLemmas.TreeIds.{Contains-none}
+use Rattle.guillotiere.proofs.StepLemmas.LiveBoxes.{counted_live, live_counted}
+use Rattle.guillotiere.proofs.ListLemmas.CallerLemmas.{count_by-permutation}
 use Rattle.guillotiere_recording.specs.Events.{EventValue, ListValue}
 use Rattle.guillotiere_recording.specs.Events.EventValue.{Allocate, Deallocate, Grow, Rearrange, ResizeAndRearrange}
 use Rattle.guillotiere_recording.specs.Sessions.{Named, IsNamed, KeepsNames, named_boxes, renamed_transfer, GrantsUnder, FreesUnder}
 use Rattle.guillotiere_recording.specs.Sessions.{RearrangesUnder, Leads, LeadOn, fresh_session}
 use Rattle.guillotiere_recording.specs.Books.{AreSameGrants, moved_boxes, booked, book_from, SessionsAreNamed, BooksAreTrue}
-use Rattle.guillotiere_recording.proofs.Counts.{count_map, count_filter, count_permuted, count_alike, map_alike}
-use Rattle.guillotiere_recording.proofs.Entries.{live_is_counted, counted_is_live}
+use Rattle.guillotiere_recording.proofs.Counts.{count_map, count_filter, count_alike, map_alike}
 use Rattle.guillotiere_recording.proofs.NamedStates.{events_keep_names, grant_counts, freeing_less}
 
 -- What is listed as live is live.
 pub listed_is_live : (s : State) (g : Grant) → Contains (live_in s) g → IsLive s g.id
-listed_is_live s g at = counted_is_live s g.id (count_some (λ k. k.id == g.id) (live_in s) g at (eq-eqb g.id g.id refl))
+listed_is_live s g at = counted_live s g.id (count_some (λ k. k.id == g.id) (live_in s) g at (eq-eqb g.id g.id refl))
 
 -- What is live before and after has the same boxes under the same names.
 same_boxes : (old new : Named) (gs : List Grant) → KeepsNames old new
@@ -61,7 +62,7 @@ granted_book held old new size a good same h p =
     let f : Grant → Grant = renamed_grant new.name in
     let left = count_by-append p held (grant_of a ∷ []) in
     let one = count_by-cons p (grant_of a) [] in
-    let permuted = count_permuted (λ k. p (f k)) (g ∷ live_in old.state) (live_in new.state) step.live in
+    let permuted = count_by-permutation (λ k. p (f k)) (g ∷ live_in old.state) (live_in new.state) step.live in
     let head = count_by-cons (λ k. p (f k)) g (live_in old.state) in
     let all = count_map f p (live_in new.state) in
     let rest = count_map f p (live_in old.state) in
@@ -75,9 +76,9 @@ granted_book held old new size a good same h p =
     after : IsGrantStep old.state (sides_of size) (grant h.id (box_of a.rectangle)) new.state → (k : Grant)
         → Contains (live_in old.state) k → IsLive new.state k.id
     after step k at =
-        let some : 1 ≤ live_count k.id old.state = live_is_counted old.state k.id (listed_is_live old.state k at) in
+        let some : 1 ≤ live_count k.id old.state = live_counted old.state k.id (listed_is_live old.state k at) in
         let e = grant_counts old.state new.state (sides_of size) (grant h.id (box_of a.rectangle)) step k.id in
-        counted_is_live new.state k.id (omega (arith, some, e))
+        counted_live new.state k.id (omega (arith, some, e))
 
 freed_book : (held : List Grant) (old new : Named) (name : ℕ) → IsNamed old → AreSameGrants held (named_boxes old)
     → FreesUnder old name new → AreSameGrants (filter (λ g. not (g.id == name)) held) (named_boxes new)
@@ -112,16 +113,16 @@ freed_book held old new name good same h p =
 
     was : IsFreeingStep old.state h.id new.state → (g : Grant) → Contains (live_in new.state) g → IsLive old.state g.id
     was step g at =
-        let some : 1 ≤ live_count g.id new.state = live_is_counted new.state g.id (listed_is_live new.state g at) in
+        let some : 1 ≤ live_count g.id new.state = live_counted new.state g.id (listed_is_live new.state g at) in
         let less = freeing_less old.state new.state h.id step g.id in
-        counted_is_live old.state g.id (omega (arith, some, less))
+        counted_live old.state g.id (omega (arith, some, less))
 
 moved_book : (old new : Named) (asked : AtlasCall) (list : ListValue) → IsNamed old → RearrangesUnder old asked list new
     → AreSameGrants (moved_boxes list) (named_boxes new)
 moved_book old new asked list good h p =
     let step = rearrangings_lose_nothing old.state new.state asked h.answer good.sound h.step in
     let f : Grant → Grant = renamed_grant new.name in
-    let after = count_permuted (λ g. p (f g)) (live_in new.state) (map (λ t. t.new) h.answer.changes) step.after in
+    let after = count_by-permutation (λ g. p (f g)) (live_in new.state) (map (λ t. t.new) h.answer.changes) step.after in
     let mapped = count_map (λ (t : Transfer). t.new) (λ g. p (f g)) h.answer.changes in
     let all = count_map f p (live_in new.state) in
     let names = count_alike (λ (t : Transfer). p (f t.new)) (λ (t : Transfer). p (renamed_transfer old.name t).new) h.answer.changes

@@ -1,8 +1,7 @@
 -- Counts over lists that are mapped, filtered or permuted.
 use Rattle.std.proofs.Common.{◌≡◌, ◌+◌, Bool, true, false, cond, ◌&&◌, List, [], ◌∷◌, map, filter, zero-add, refl, ap, ap₂, sym, ◌∙◌}
-use Rattle.std.proofs.Common.{Contains, IsPermutation}
+use Rattle.std.proofs.Common.{Contains}
 use Rattle.std.specs.List.{count_by}
-use Rattle.std.proofs.lemmas.List.Sorted.{sum_by-IsPermutation}
 use Rattle.guillotiere.proofs.ListLemmas.ListCounts.{count_by-cons}
 use Rattle.guillotiere.proofs.TreeLemmas.TreeBasics.{one_if}
 use Rattle.guillotiere.proofs.TreeLemmas.TreeIds.{Contains-first, Contains-later}
@@ -26,9 +25,6 @@ count_filter q p (x ∷ xs) = by_test (q x) refl (count_filter q p xs) ∙ sym (
     by_test false is later =
         ap (λ b. count_by p (cond b (x ∷ filter q xs) (filter q xs))) is ∙ later ∙ sym (zero-add _)
         ∙ ap (λ b. one_if (b && p x) + count_by (λ y. q y && p y) xs) (sym is)
-
-pub count_permuted : {X : Type 0} (p : X → Bool) (xs ys : List X) → IsPermutation xs ys → count_by p ys ≡ count_by p xs
-count_permuted p xs ys h = sum_by-IsPermutation (λ x. one_if (p x)) xs ys h
 
 -- Tests that agree on a list's elements count alike.
 pub count_alike : {X : Type 0} (p q : X → Bool) (xs : List X) → ((x : X) → Contains xs x → p x ≡ q x)

@@ -1,38 +1,18 @@
 -- The entries of live ids: what is counted, and the names that they give.
 use Rattle.std.proofs.Common.{◌≡◌, ℕ, ◌+◌, ◌<◌, ◌≤◌, ◌==◌, eqb, Bool, true, false, cond, get_or, List, [], ◌∷◌, ◌++◌, length, take, drop}
-use Rattle.std.proofs.Common.{suc, refl, ap, sym, subst, ◌∙◌, arith, All, Contains}
-use Rattle.std.specs.List.{count_by, remove}
+use Rattle.std.proofs.Common.{suc, refl, ap, sym, ◌∙◌, arith, All, Contains}
+use Rattle.std.specs.List.{remove}
 use Rattle.std.proofs.lemmas.Bool.{eqb-true, eq-eqb}
 use Rattle.std.proofs.lemmas.List.Elements.{All-contains, All-contains_itself, All-append, All-take, All-drop, Contains-append_left}
-use Rattle.std.proofs.lemmas.List.Elements.{Contains-append_right, Contains-push}
+use Rattle.std.proofs.lemmas.List.Elements.{Contains-push}
 use Rattle.std.proofs.lemmas.List.Sums.{sum_by-remove}
-use Rattle.guillotiere.specs.Changes.{only}
-use Rattle.guillotiere.specs.Trees.{ids}
-use Rattle.guillotiere.specs.States.{State, IsLive}
-use Rattle.guillotiere.specs.Laws.StepLaws.{live_count}
-use Rattle.guillotiere.proofs.TreeLemmas.BoxLists.{count_live}
-use Rattle.guillotiere.proofs.ListLemmas.ListCounts.{count_by-cons, count_by-append, count_some, counted_once, split_at}
+use Rattle.guillotiere.proofs.ListLemmas.ListCounts.{count_by-cons, count_by-append, count_some, counted_once}
 use Rattle.guillotiere.proofs.TreeLemmas.TreeBasics.{one_if}
 use Rattle.guillotiere.proofs.TreeLemmas.TreeIds.{Contains-first, Contains-later}
 use Rattle.guillotiere_recording.specs.declared.names.LiveName.{LiveName as Entry}
 use Rattle.guillotiere_recording.specs.Names.{entries_of, name_among}
 
 -- Live ids are those that are counted.
-
-pub live_is_counted : (s : State) (id : ℕ) → IsLive s id → 1 ≤ live_count id s
-live_is_counted s id at =
-    let same : live_count id s ≡ count_by (only id) (ids s.tree.members) = count_live (only id) s.size s.tree in
-    let some : 1 ≤ count_by (only id) (ids s.tree.members) = count_some (only id) (ids s.tree.members) id at (eq-eqb id id refl) in
-    omega arith
-
-pub counted_is_live : (s : State) (id : ℕ) → 1 ≤ live_count id s → IsLive s id
-counted_is_live s id some =
-    let same : live_count id s ≡ count_by (only id) (ids s.tree.members) = count_live (only id) s.size s.tree in
-    let at = split_at (only id) (ids s.tree.members) (omega arith) in
-    let there : Contains (at.before ++ at.here ∷ at.after) at.here =
-    Contains-append_right at.before (at.here ∷ at.after) at.here (Contains-first at.here at.after) in
-    let P : List ℕ → ℕ → Type 0 = λ xs x. Contains xs x in
-    subst (P (ids s.tree.members)) (eqb-true at.here id at.passes) (subst (λ xs. P xs at.here) (sym at.is) there)
 
 -- An id that has entries: one of them gives its name.
 pub entry_of : (id : ℕ) (ns : List Entry) → 1 ≤ entries_of id ns

@@ -1,10 +1,9 @@
 -- A rearranging in a replay: the names that a map keeps, before and after it.
 use Rattle.std.proofs.Common.{◌≡◌, ℕ, ◌+◌, ◌<◌, ◌≤◌, ◌==◌, ◌⊎◌, inl, inr, false, List, [], ◌∷◌, ◌++◌, length, take, get_or, refl, ap, sym}
-use Rattle.std.proofs.Common.{subst, ◌∙◌, zero-add, arith, All, Contains, Some, None, pos}
+use Rattle.std.proofs.Common.{subst, ◌∙◌, zero-add, arith, All, Contains, Some, pos}
 use Rattle.std.specs.List.{count_by}
 use Rattle.std.specs.Ordering.{nat_cmp}
-use Rattle.std.specs.Map.{lookup}
-use Rattle.std.specs.BTreeMap.{get, is_at, Updates, IsOrdered}
+use Rattle.std.specs.BTreeMap.{get, Updates, IsOrdered}
 use Rattle.std.proofs.lemmas.Bool.{eq-eqb, ne_eqb, cases_eq, cases_lt}
 use Rattle.std.proofs.lemmas.List.{take_more, get_or-take, get_or_default, length-take-le}
 use Rattle.std.proofs.lemmas.List.Elements.{All-contains, All-map, Contains-push, Contains-push_cases, Contains-append_left}
@@ -14,6 +13,7 @@ use Rattle.guillotiere.specs.States.{State, IsLive, IsSound}
 use Rattle.guillotiere.specs.Laws.StepLaws.{live_count}
 use Rattle.guillotiere.specs.Stored.{AtlasValue}
 use Rattle.guillotiere.proofs.ListLemmas.ListCounts.{count_by-cons}
+use Rattle.guillotiere.proofs.StepLemmas.LiveBoxes.{counted_live, live_counted, few_live}
 use Rattle.guillotiere_recording.specs.declared.names.LiveName.{LiveName as Entry}
 use Rattle.guillotiere_recording.specs.Logs.{RecordingValue}
 use Rattle.guillotiere_recording.specs.Names.{AreRisingNames, entries_of, name_among}
@@ -22,8 +22,7 @@ use Rattle.guillotiere_recording.specs.Recordings.{SessionValue}
 use Rattle.guillotiere_recording.specs.Sessions.{Named}
 use Rattle.guillotiere_recording.specs.Standing.{Names, ShowsNamed}
 use Rattle.guillotiere_recording.proofs.Counts.{count_map, count_alike}
-use Rattle.guillotiere_recording.proofs.Entries.{live_is_counted, counted_is_live, entry_of}
-use Rattle.guillotiere_recording.proofs.NamedStates.{live_at_most_once}
+use Rattle.guillotiere_recording.proofs.Entries.{entry_of}
 use Rattle.guillotiere_recording.proofs.ReplaySteps.{at_other, one_id}
 use Rattle.guillotiere_recording.proofs.ReplayEnds.{IsFound, keys_counted, how_many}
 
@@ -91,15 +90,15 @@ module _ (a : AtlasValue) (names : Names) (s : Named) (h : ShowsNamed a names s)
     counted : (id : ℕ) → entries_of id (entries_in names) ≡ count_by (λ (e : ℕ × ℕ). e.1 == id) names.entries
     counted id = count_map entry_in (λ (n : Entry). n.id == id) names.entries
 
-    live_counted : (id : ℕ) → 1 ≤ live_count id s.state → entries_of id (entries_in names) ≡ live_count id s.state
-    live_counted id some =
-        let live : IsLive s.state id = counted_is_live s.state id some in
+    live_as_often : (id : ℕ) → 1 ≤ live_count id s.state → entries_of id (entries_in names) ≡ live_count id s.state
+    live_as_often id some =
+        let live : IsLive s.state id = counted_live s.state id some in
         let its : get nat_cmp names (s.name id) ≡ Some id = (h.finds (s.name id) id).1 (live, refl) in
         let alike = count_alike (λ (e : ℕ × ℕ). e.1 == id) (λ (e : ℕ × ℕ). e.0 == s.name id) names.entries (λ e at. told its e at) in
         let mapped = count_map (λ (e : ℕ × ℕ). e.0) (λ n. n == s.name id) names.entries in
         let keys = keys_counted names.entries ordered (s.name id) in
         let one : how_many (get nat_cmp names (s.name id)) ≡ 1 = ap how_many its in
-        let few = live_at_most_once s.state id h.named.sound in
+        let few = few_live s.state id h.named.sound in
         let c = counted id in
         omega (arith, alike, mapped, keys, one, few, some, c)
       where
@@ -129,7 +128,7 @@ module _ (a : AtlasValue) (names : Names) (s : Named) (h : ShowsNamed a names s)
         told : (e : ℕ × ℕ) → Contains names.entries e → (e.1 == id) ≡ false
         told e at = ne_eqb e.1 id (λ same.
             let live = ((h.finds e.0 e.1).0 (All-contains (IsFound names) names.entries e all at)).0 in
-            let some : 1 ≤ live_count id s.state = subst (λ k. 1 ≤ live_count k s.state) same (live_is_counted s.state e.1 live) in
+            let some : 1 ≤ live_count id s.state = subst (λ k. 1 ≤ live_count k s.state) same (live_counted s.state e.1 live) in
             omega (arith, some, none))
 
         count_none : (es : List (ℕ × ℕ)) → count_by (λ (e : ℕ × ℕ). false) es ≡ 0
@@ -141,13 +140,13 @@ module _ (a : AtlasValue) (names : Names) (s : Named) (h : ShowsNamed a names s)
       where
         by_count : (0 < live_count id s.state) ⊎ (live_count id s.state ≤ 0)
             → entries_of id (entries_in names) ≡ live_count id s.state
-        by_count (inl some) = live_counted id (omega (arith, some))
+        by_count (inl some) = live_as_often id (omega (arith, some))
         by_count (inr none) = dead_counted id none
 
     -- The entries name live ids as the state does.
     pub named_alike : (id : ℕ) → IsLive s.state id → name_among (entries_in names) id ≡ s.name id
     named_alike id live =
-        let some : 1 ≤ live_count id s.state = live_is_counted s.state id live in
+        let some : 1 ≤ live_count id s.state = live_counted s.state id live in
         let r = entry_of id (entries_in names) (subst (λ n. 1 ≤ n) (sym (ids_counted id)) some) in
         let named : s.name r.0.id ≡ r.0.name = ((h.finds r.0.name r.0.id).0 (entry_found r.0 r.1)).1 in
         r.3 ∙ sym named ∙ ap s.name r.2

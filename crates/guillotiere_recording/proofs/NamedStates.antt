@@ -6,32 +6,25 @@ use Rattle.std.proofs.lemmas.Bool.{eqb-true, eq-eqb, false≢true}
 use Rattle.std.proofs.lemmas.List.Elements.{All-contains, Contains-append_right}
 use Rattle.guillotiere.specs.Boxes.{Sides}
 use Rattle.guillotiere.specs.Pixels.{sides_of, box_of}
-use Rattle.guillotiere.specs.Trees.{Grant, grant, ids, slot_count}
-use Rattle.guillotiere.specs.States.{State, IsLive, IsSound, live_in}
+use Rattle.guillotiere.specs.Trees.{Grant, grant, ids}
+use Rattle.guillotiere.specs.States.{State, IsLive, live_in}
 use Rattle.guillotiere.specs.Steps as atlas
 use Rattle.guillotiere.specs.Steps.{AtlasCall}
 use Rattle.guillotiere.specs.Laws.StepLaws.{live_count, IsGrantStep, IsFreeingStep, IsGrowthStep, IsRearrangingStep}
 use Rattle.guillotiere.specs.Refits.{Transfer}
 use Rattle.guillotiere.specs.Renaming.{IsOneToOne}
-use Rattle.guillotiere.proofs.TreeLemmas.BoxLists.{live_few}
 use Rattle.guillotiere.proofs.ListLemmas.ListCounts.{count_by-cons, count_by-append, count_by-weaker, count_some, counted_once, split_at}
 use Rattle.guillotiere.proofs.StepLemmas.StepEffects.{grants_lie_inside, freeings_remove_one, growths_keep_boxes, rearrangings_lose_nothing}
 use Rattle.guillotiere.proofs.StepLemmas.SoundSteps.{steps_keep}
 use Rattle.guillotiere.proofs.TreeLemmas.TreeBasics.{one_if}
 use Rattle.guillotiere.proofs.TreeLemmas.TreeIds.{Contains-first}
+use Rattle.guillotiere.proofs.StepLemmas.LiveBoxes.{counted_live, live_counted, few_live}
+use Rattle.guillotiere.proofs.ListLemmas.CallerLemmas.{count_by-permutation}
 use Rattle.guillotiere_recording.specs.Events.{ListValue}
 use Rattle.guillotiere_recording.specs.Events.EventValue.{Allocate, Deallocate, Grow, Rearrange, ResizeAndRearrange}
 use Rattle.guillotiere_recording.specs.Sessions.{Named, IsLiveName, IsNamed, KeepsNames, RearrangesUnder}
 use Rattle.guillotiere_recording.specs.Books.{EventsKeepNames}
-use Rattle.guillotiere_recording.proofs.Counts.{count_map, count_filter, count_permuted, count_alike}
-use Rattle.guillotiere_recording.proofs.Entries.{live_is_counted, counted_is_live}
-
--- A live id is counted once.
-pub live_at_most_once : (s : State) (id : ℕ) → IsSound s → live_count id s ≤ 1
-live_at_most_once s id sound =
-    let few : live_count id s ≤ slot_count id (ids s.tree.members) = live_few id s.size s.tree in
-    let one : slot_count id (ids s.tree.members) ≤ 1 = sound.well_formed.apart id in
-    omega arith
+use Rattle.guillotiere_recording.proofs.Counts.{count_map, count_filter, count_alike}
 
 -- Where nothing new is live, names stay one to one.
 fewer : (old new : Named) → IsOneToOne old.name (ids old.state.tree.members)
@@ -44,15 +37,16 @@ fewer old new one less kept a b live_a live_b same =
   where
     was : (id : ℕ) → IsLive new.state id → IsLive old.state id
     was id live =
-        let some : 1 ≤ live_count id new.state = live_is_counted new.state id live in
+        let some : 1 ≤ live_count id new.state = live_counted new.state id live in
         let h : live_count id new.state ≤ live_count id old.state = less id in
-        counted_is_live old.state id (omega arith)
+        counted_live old.state id (omega arith)
 
 -- What a grant counts.
 pub grant_counts : (old new : State) (r : Sides) (g : Grant) → IsGrantStep old r g new → (id : ℕ)
     → live_count id new ≡ one_if (g.id == id) + live_count id old
 grant_counts old new r g h id =
-    count_permuted (λ k. k.id == id) (g ∷ live_in old) (live_in new) h.live ∙ count_by-cons (λ (k : Grant). k.id == id) g (live_in old)
+    count_by-permutation (λ k. k.id == id) (g ∷ live_in old) (live_in new) h.live
+    ∙ count_by-cons (λ (k : Grant). k.id == id) g (live_in old)
 
 granted_names : (old new : Named) (r : Sides) (g : Grant) (name : ℕ) → IsOneToOne old.name (ids old.state.tree.members)
     → IsGrantStep old.state r g new.state → (IsLiveName old name → ⊥) → new.name g.id ≡ name → KeepsNames old new
@@ -60,13 +54,13 @@ granted_names : (old new : Named) (r : Sides) (g : Grant) (name : ℕ) → IsOne
 granted_names old new r g name one step unused named kept a b live_a live_b same = by_age (age a live_a) (age b live_b)
   where
     age : (id : ℕ) → IsLive new.state id → (id ≡ g.id) ⊎ IsLive old.state id
-    age id live = by_test (eqb g.id id) refl (live_is_counted new.state id live) (grant_counts old.state new.state r g step id)
+    age id live = by_test (eqb g.id id) refl (live_counted new.state id live) (grant_counts old.state new.state r g step id)
       where
         by_test : (b : Bool) → eqb g.id id ≡ b → 1 ≤ live_count id new.state
             → live_count id new.state ≡ one_if b + live_count id old.state
             → (id ≡ g.id) ⊎ IsLive old.state id
         by_test true is some count = inl (sym (eqb-true g.id id is))
-        by_test false is some count = inr (counted_is_live old.state id (omega arith))
+        by_test false is some count = inr (counted_live old.state id (omega arith))
 
     clash : (id other : ℕ) → IsLive new.state id → IsLive old.state id → other ≡ g.id → new.name other ≡ new.name id → ⊥
     clash id other live was is names =
@@ -137,9 +131,9 @@ growth_counts old new h id = ap (count_by (λ g. g.id == id)) h.live
 moved_to : (old new : State) (asked : AtlasCall) (list : _) → IsRearrangingStep old list new → (id : ℕ) → IsLive new id
     → (t : Transfer) × Contains list.changes t × (t.new.id ≡ id)
 moved_to old new asked list h id live =
-    let some : 1 ≤ live_count id new = live_is_counted new id live in
+    let some : 1 ≤ live_count id new = live_counted new id live in
     let same : count_by (λ (g : Grant). g.id == id) (map (λ t. t.new) list.changes) ≡ live_count id new =
-    count_permuted (λ (g : Grant). g.id == id) (live_in new) (map (λ t. t.new) list.changes) h.after in
+    count_by-permutation (λ (g : Grant). g.id == id) (live_in new) (map (λ t. t.new) list.changes) h.after in
     let all : count_by (λ (g : Grant). g.id == id) (map (λ t. t.new) list.changes) ≡ count_by (λ t. t.new.id == id) list.changes =
     count_map (λ t. t.new) (λ (g : Grant). g.id == id) list.changes in
     let at = split_at (λ t. t.new.id == id) list.changes (omega arith) in
@@ -152,7 +146,7 @@ pub moved_from : (old new : State) (list : _) → IsRearrangingStep old list new
     → count_by (λ t. t.old.id == id) list.changes ≤ live_count id old
 moved_from old new list h id =
     let p : Grant → Bool = λ g. g.id == id in
-    let a = count_permuted p (live_in old) (map (λ t. t.old) list.changes ++ list.failures) h.before in
+    let a = count_by-permutation p (live_in old) (map (λ t. t.old) list.changes ++ list.failures) h.before in
     let b = count_by-append p (map (λ t. t.old) list.changes) list.failures in
     let c = count_map (λ t. t.old) p list.changes in
     omega (arith, a, b, c)
@@ -177,7 +171,7 @@ rearranged_names old new asked list good h a b live_a live_b same =
     at_most : IsRearrangingStep old.state h.answer new.state → (id : ℕ) → count_by (λ (k : Transfer). k.old.id == id) h.answer.changes ≤ 1
     at_most step id =
         let few = moved_from old.state new.state h.answer step id in
-        let one = live_at_most_once old.state id good.sound in
+        let one = few_live old.state id good.sound in
         omega (arith, few, one)
 
     was : IsRearrangingStep old.state h.answer new.state → (t : Transfer) → Contains h.answer.changes t
@@ -186,7 +180,7 @@ rearranged_names old new asked list good h a b live_a live_b same =
         let some : 1 ≤ count_by (λ (k : Transfer). k.old.id == t.old.id) h.answer.changes =
         count_some (λ (k : Transfer). k.old.id == t.old.id) h.answer.changes t at (eq-eqb _ _ refl) in
         let few = moved_from old.state new.state h.answer step t.old.id in
-        counted_is_live old.state t.old.id (omega (arith, some, few))
+        counted_live old.state t.old.id (omega (arith, some, few))
 
 -- The limit stays.
 rearranged_limit : (old new : Named) (asked : AtlasCall) (list : ListValue) → (n : Sides)

@@ -4,14 +4,15 @@ use Rattle.std.proofs.lemmas.List.Elements.{All-contains}
 use Rattle.std.proofs.lemmas.List.Sorted.{Contains-permutation}
 use Rattle.guillotiere.specs.declared.Allocation.{Allocation}
 use Rattle.guillotiere.specs.declared.Change.{Change}
+use Rattle.guillotiere.proofs.ListLemmas.CallerLemmas.{count_by-permutation}
 use Rattle.guillotiere_recording.specs.declared.names.LiveName.{LiveName as Entry}
 use Rattle.guillotiere_recording.specs.Names.{entries_of, name_among}
 use Rattle.guillotiere_recording.specs.Moves.{failure_under}
-use Rattle.guillotiere_recording.proofs.Counts.{count_permuted, map_alike}
+use Rattle.guillotiere_recording.proofs.Counts.{map_alike}
 use Rattle.guillotiere_recording.proofs.Entries.{entry_of, name_of}
 
 pub entries_permuted : (ns ms : List Entry) → IsPermutation ns ms → (id : ℕ) → entries_of id ms ≡ entries_of id ns
-entries_permuted ns ms h id = count_permuted (λ (n : Entry). n.id == id) ns ms h
+entries_permuted ns ms h id = count_by-permutation (λ (n : Entry). n.id == id) ns ms h
 
 pub names_permuted : (ns ms : List Entry) → IsPermutation ns ms → (id : ℕ) → entries_of id ns ≤ 1 → 1 ≤ entries_of id ns
     → name_among ms id ≡ name_among ns id

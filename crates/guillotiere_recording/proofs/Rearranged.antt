@@ -1,10 +1,10 @@
 -- A rearranging under names keeps a session.
-use Rattle.std.proofs.Common.{◌≡◌, ℕ, zero, suc, append-nil, ◌<◌, ◌≤◌, ◌==◌, ◌⊎◌, inl, inr, Bool, true, false, get_or, List, [], ◌∷◌, ◌++◌}
+use Rattle.std.proofs.Common.{◌≡◌, ℕ, append-nil, ◌<◌, ◌≤◌, ◌==◌, ◌⊎◌, inl, inr, Bool, true, false, get_or, List, [], ◌∷◌, ◌++◌}
 use Rattle.std.proofs.Common.{length, map, refl, ap, sym, subst, ◌∙◌, arith, All, Contains}
 use Rattle.std.specs.List.{count_by}
 use Rattle.std.specs.List.Sorted.{IsNonDecreasingBy}
 use Rattle.std.proofs.lemmas.Bool.{eqb-true, eq-eqb, cases_lt}
-use Rattle.std.proofs.lemmas.List.{get_or-map, get_or_default, length-map}
+use Rattle.std.proofs.lemmas.List.{get_or_default}
 use Rattle.std.proofs.lemmas.List.Elements.{All-contains, All-map, Contains-append_right}
 use Rattle.std.proofs.lemmas.List.Sorted.{All-permutation, Contains-permutation}
 use Rattle.guillotiere.specs.declared.Allocation.{Allocation}
@@ -25,6 +25,9 @@ use Rattle.guillotiere.proofs.StepLemmas.SoundSteps.{steps_keep}
 use Rattle.guillotiere.proofs.StepLemmas.StepEffects.{rearrangings_lose_nothing}
 use Rattle.guillotiere.proofs.TreeLemmas.TreeBasics.{one_if}
 use Rattle.guillotiere.proofs.TreeLemmas.TreeIds.{Contains-first, Contains-later}
+use Rattle.guillotiere.proofs.ListLemmas.CallerLemmas.{Contains-map, count_by-permutation}
+use Rattle.guillotiere.proofs.StepLemmas.LiveBoxes.{counted_live, few_live}
+use Rattle.guillotiere.proofs.SimpleLemmas.ApartCrossings.{count_two}
 use Rattle.guillotiere_recording.specs.declared.names.LiveName.{LiveName as Entry}
 use Rattle.guillotiere_recording.specs.declared.moves.Moved.{Moved}
 use Rattle.guillotiere_recording.specs.Events.{EventValue, list_value_of, given_names}
@@ -34,9 +37,9 @@ use Rattle.guillotiere_recording.specs.Names.{AreRisingNames, entries_of, name_a
 use Rattle.guillotiere_recording.specs.Moves.{change_under, failure_under, entry_under, AreEntered, IsMoved}
 use Rattle.guillotiere_recording.specs.Recordings.{SessionValue, session_of, IsRecordedSession}
 use Rattle.guillotiere_recording.specs.Kept.{IsSessionKept}
-use Rattle.guillotiere_recording.proofs.Counts.{count_map, count_permuted}
-use Rattle.guillotiere_recording.proofs.Entries.{entry_of, name_of, counted_is_live}
-use Rattle.guillotiere_recording.proofs.NamedStates.{live_at_most_once, moved_from}
+use Rattle.guillotiere_recording.proofs.Counts.{count_map}
+use Rattle.guillotiere_recording.proofs.Entries.{entry_of, name_of}
+use Rattle.guillotiere_recording.proofs.NamedStates.{moved_from}
 use Rattle.guillotiere_recording.proofs.RecordedSessions.{session_named, recorded_more, given_more, names_in}
 
 -- What each session keeps.
@@ -48,10 +51,6 @@ kept_of v h = record { ids = h.ids; named = session_named v h }
 pub map_twice : {X Y Z : Type 0} (f : Y → Z) (g : X → Y) (xs : List X) → map f (map g xs) ≡ map (λ x. f (g x)) xs
 map_twice f g [] = refl
 map_twice f g (x ∷ xs) = ap (λ ys. f (g x) ∷ ys) (map_twice f g xs)
-
-contains_mapped : {X Y : Type 0} (f : X → Y) (xs : List X) (x : X) → Contains xs x → Contains (map f xs) (f x)
-contains_mapped f xs x (k, below, is) =
-    (k, subst (λ n. k < n) (sym (length-map xs f)) below, get_or-map f xs k x (f x) below ∙ ap f is)
 
 count_weaker_in : {X : Type 0} (p q : X → Bool) (xs : List X) → ((x : X) → Contains xs x → p x ≡ true → q x ≡ true)
     → count_by p xs ≤ count_by q xs
@@ -66,22 +65,6 @@ count_weaker_in p q (x ∷ xs) w =
     by_test : (b : Bool) → p x ≡ b → one_if b ≤ one_if (q x)
     by_test true is = rw (w x (Contains-first x xs) is) (omega arith)
     by_test false is = omega arith
-
-count_two : {X : Type 0} (p : X → Bool) (xs : List X) (i j : ℕ) (d : X) → i < j → j < length xs
-    → p (get_or xs i d) ≡ true
-    → p (get_or xs j d) ≡ true → 2 ≤ count_by p xs
-count_two p [] i j d less below pi pj = absurd (omega arith)
-count_two p (x ∷ xs) zero zero d less below pi pj = absurd (omega arith)
-count_two p (x ∷ xs) (suc i) zero d less below pi pj = absurd (omega arith)
-count_two p (x ∷ xs) zero (suc j) d less below pi pj =
-    let a = count_by-cons p x xs in
-    let one : one_if (p x) ≡ 1 = ap one_if pi in
-    let some = count_some p xs (get_or xs j d) (j, omega arith, get_or_default xs j (get_or xs j d) d (omega arith)) pj in
-    omega (arith, a, one, some)
-count_two p (x ∷ xs) (suc i) (suc j) d less below pi pj =
-    let a = count_by-cons p x xs in
-    let two = count_two p xs i j d (omega arith) (omega arith) pi pj in
-    omega (arith, a, two)
 
 pub strictly : (ns : List Entry) → IsNonDecreasingBy (λ (n : Entry). n.name) ns
     → ((name : ℕ) → count_by (λ (n : Entry). n.name == name) ns ≤ 1) → AreRisingNames ns
@@ -106,7 +89,7 @@ pub all_entered : {A : Type 0} (v : SessionValue) (new : State) (answer : Change
 all_entered v new answer asked h step = record {
   changed = λ k d below. changed k d below;
   failed = λ k d below. failed k d below;
-  once = λ id. (let one = live_at_most_once (state_of v.atlas) id h.named.sound in let i = h.ids id in omega (arith, one, i));
+  once = λ id. (let one = few_live (state_of v.atlas) id h.named.sound in let i = h.ids id in omega (arith, one, i));
 }
   where
     moves : IsRearrangingStep (state_of v.atlas) (rearrangement_of answer) new
@@ -129,7 +112,7 @@ all_entered v new answer asked h step = record {
         let x : Allocation = get_or answer.failures.items k d in
         let p : Grant → Bool = λ g. g.id == x.id in
         let i = h.ids x.id in
-        let a = count_permuted p (live_in (state_of v.atlas)) (map (λ (t : Transfer). t.old) (rearrangement_of answer).changes ++
+        let a = count_by-permutation p (live_in (state_of v.atlas)) (map (λ (t : Transfer). t.old) (rearrangement_of answer).changes ++
         (rearrangement_of answer).failures) moves.before in
         let b = count_by-append p (map (λ (t : Transfer). t.old) (rearrangement_of answer).changes) (rearrangement_of answer).failures in
         let c = count_map grant_of p answer.failures.items in
@@ -147,9 +130,9 @@ entered_anew v new answer m asked h step moved id =
     let moves = rearrangings_lose_nothing (state_of v.atlas) new asked (rearrangement_of answer) h.named.sound step in
     let f = name_among v.names in
     let p : Grant → Bool = λ g. g.id == id in
-    let a = count_permuted (λ (n : Entry). n.id == id) (map (entry_under f) answer.changes.items) m.names.items moved.entries in
+    let a = count_by-permutation (λ (n : Entry). n.id == id) (map (entry_under f) answer.changes.items) m.names.items moved.entries in
     let b = count_map (entry_under f) (λ (n : Entry). n.id == id) answer.changes.items in
-    let c = count_permuted p (live_in new) (map (λ (t : Transfer). t.new) (rearrangement_of answer).changes) moves.after in
+    let c = count_by-permutation p (live_in new) (map (λ (t : Transfer). t.new) (rearrangement_of answer).changes) moves.after in
     let d = count_map (λ (t : Transfer). t.new) p (rearrangement_of answer).changes in
     let e = count_map transfer_of (λ (t : Transfer). t.new.id == id) answer.changes.items in
     omega (arith, a, b, c, d, e)
@@ -183,7 +166,7 @@ rearranges_under v a answer m asked h step exact moved few =
         let c : Change = get_or answer.changes.items k d in
         let there = Contains-permutation (map (entry_under (name_among v.names)) answer.changes.items) m.names.items
         (entry_under (name_among v.names) c) moved.entries
-        (contains_mapped (entry_under (name_among v.names)) answer.changes.items c
+        (Contains-map (entry_under (name_among v.names)) answer.changes.items c
         (k, below, get_or_default answer.changes.items k c d below)) in
         let e = entered_anew v (state_of a) answer m asked h step moved c.new.id in
         let one = few c.new.id in
@@ -194,7 +177,7 @@ pub once_after : {A : Type 0} (v : SessionValue) (new : State) (answer : ChangeL
     → IsSessionKept v
     → Step (state_of v.atlas) asked (atlas.Changed (rearrangement_of answer)) new → (id : ℕ) → live_count id new ≤ 1
 once_after v new answer asked h step id =
-    live_at_most_once new id
+    few_live new id
     (steps_keep (state_of v.atlas) new asked (atlas.Changed (rearrangement_of answer)) h.named.sound step)
 
 -- Names stay apart.
@@ -204,7 +187,7 @@ pub names_apart : {A : Type 0} (v : SessionValue) (new : State) (answer : Change
     → Step (state_of v.atlas) asked (atlas.Changed (rearrangement_of answer)) new → IsMoved v.names answer m
     → (name : ℕ) → count_by (λ (n : Entry). n.name == name) m.names.items ≤ 1
 names_apart v new answer m asked h step moved name =
-    let a = count_permuted (λ (n : Entry). n.name == name) (map (entry_under (name_among v.names)) answer.changes.items) m.names.items
+    let a = count_by-permutation (λ (n : Entry). n.name == name) (map (entry_under (name_among v.names)) answer.changes.items) m.names.items
     moved.entries in
     let b = count_map (entry_under (name_among v.names)) (λ (n : Entry). n.name == name) answer.changes.items in
     let few = by_count (cases_lt 0 (count_by (λ (c : Change). name_among v.names c.old.id == name) answer.changes.items)) in
@@ -218,7 +201,7 @@ names_apart v new answer m asked h step moved name =
         let few = moved_from (state_of v.atlas) new (rearrangement_of answer) moves c.old.id in
         let all = count_map transfer_of (λ (t : Transfer). t.old.id == c.old.id) answer.changes.items in
         let some = count_some (λ (x : Change). x.old.id == c.old.id) answer.changes.items c at (eq-eqb _ _ refl) in
-        counted_is_live (state_of v.atlas) c.old.id (omega (arith, few, all, some))
+        counted_live (state_of v.atlas) c.old.id (omega (arith, few, all, some))
 
     by_count : (0 < count_by (λ (c : Change). name_among v.names c.old.id == name) answer.changes.items)
         ⊎ (count_by (λ (c : Change). name_among v.names c.old.id == name) answer.changes.items ≤ 0)
@@ -235,7 +218,7 @@ names_apart v new answer m asked h step moved name =
         (eqb-true _ _ is ∙ sym (eqb-true _ _ s.passes)))) in
         let all = count_map transfer_of (λ (t : Transfer). t.old.id == s.here.old.id) answer.changes.items in
         let from = moved_from (state_of v.atlas) new (rearrangement_of answer) moves s.here.old.id in
-        let one = live_at_most_once (state_of v.atlas) s.here.old.id h.named.sound in
+        let one = few_live (state_of v.atlas) s.here.old.id h.named.sound in
         omega (arith, few, all, from, one)
 
 pub rearranged_session : {A : Type 0} (v : SessionValue) (a : AtlasValue) (ns : List Entry) (r : RecordingValue)

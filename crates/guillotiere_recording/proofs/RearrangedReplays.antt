@@ -1,9 +1,9 @@
 -- What a rearranging in a replay makes of the atlas and of the names that it keeps.
-use Rattle.std.proofs.Common.{◌≡◌, ℕ, Bool, ◌<◌, ◌≤◌, ◌==◌, List, ◌++◌, map, get_or, refl, ap, sym, subst, ◌∙◌, arith, All, Contains}
+use Rattle.std.proofs.Common.{◌≡◌, ℕ, Bool, ◌≤◌, ◌==◌, ◌++◌, map, get_or, refl, ap, sym, subst, ◌∙◌, arith, All, Contains}
 use Rattle.std.specs.Ordering.{nat_cmp}
 use Rattle.std.specs.BTreeMap.{IsOrdered}
 use Rattle.std.proofs.lemmas.Bool.{eq-eqb}
-use Rattle.std.proofs.lemmas.List.{get_or_default, get_or-map, length-map}
+use Rattle.std.proofs.lemmas.List.{get_or_default}
 use Rattle.std.proofs.lemmas.List.Elements.{All-contains}
 use Rattle.guillotiere.specs.declared.Size.{Size}
 use Rattle.guillotiere.specs.declared.Allocation.{Allocation}
@@ -23,6 +23,8 @@ use Rattle.guillotiere.specs.Laws.StepLaws.{live_count, IsRearrangingStep}
 use Rattle.guillotiere.specs.Stored.{AtlasValue, state_of}
 use Rattle.guillotiere.proofs.ListLemmas.ListCounts.{count_by-append, count_some}
 use Rattle.guillotiere.proofs.StepLemmas.StepEffects.{rearrangings_lose_nothing}
+use Rattle.guillotiere.proofs.ListLemmas.CallerLemmas.{Contains-map, count_by-permutation}
+use Rattle.guillotiere.proofs.StepLemmas.LiveBoxes.{counted_live, live_counted}
 use Rattle.guillotiere_recording.specs.declared.moves.Moved.{Moved}
 use Rattle.guillotiere_recording.specs.declared.steps.EventFault.{EventFault}
 use Rattle.guillotiere_recording.specs.declared.steps.EventFault.TheVariants as stop
@@ -36,8 +38,8 @@ use Rattle.guillotiere_recording.specs.Recordings.{session_of}
 use Rattle.guillotiere_recording.specs.Replays.{AnswersOtherwise, shown_grant, shown_change, shown_list}
 use Rattle.guillotiere_recording.specs.Sessions.{Named, renamed_transfer, RearrangesUnder, Leads}
 use Rattle.guillotiere_recording.specs.Standing.{Names, ShowsNamed, Finds, IsStopped}
-use Rattle.guillotiere_recording.proofs.Counts.{count_permuted, map_alike}
-use Rattle.guillotiere_recording.proofs.Entries.{live_is_counted, counted_is_live, entry_of, name_of}
+use Rattle.guillotiere_recording.proofs.Counts.{map_alike}
+use Rattle.guillotiere_recording.proofs.Entries.{entry_of, name_of}
 use Rattle.guillotiere_recording.proofs.NamedStates.{moved_from, events_keep_names}
 use Rattle.guillotiere_recording.proofs.Rearranged.{map_twice, entered_anew, rearranges_under, once_after}
 use Rattle.guillotiere_recording.proofs.ReplayEnds.{IsFound}
@@ -51,21 +53,17 @@ live_old : (old new : State) (answer : Rearrangement) → IsRearrangingStep old 
 live_old old new answer moves t at =
     let few = moved_from old new answer moves t.old.id in
     let some = count_some (λ (x : Transfer). x.old.id == t.old.id) answer.changes t at (eq-eqb _ _ refl) in
-    counted_is_live old t.old.id (omega (arith, few, some))
+    counted_live old t.old.id (omega (arith, few, some))
 
 live_failed : (old new : State) (answer : Rearrangement) → IsRearrangingStep old answer new → (x : Grant)
     → Contains answer.failures x
     → IsLive old x.id
 live_failed old new answer moves x at =
     let p : Grant → Bool = λ g. g.id == x.id in
-    let i = count_permuted p (live_in old) (map (λ (t : Transfer). t.old) answer.changes ++ answer.failures) moves.before in
+    let i = count_by-permutation p (live_in old) (map (λ (t : Transfer). t.old) answer.changes ++ answer.failures) moves.before in
     let j = count_by-append p (map (λ (t : Transfer). t.old) answer.changes) answer.failures in
     let some = count_some p answer.failures x at (eq-eqb _ _ refl) in
-    counted_is_live old x.id (omega (arith, i, j, some))
-
-contains_mapped : {X Y : Type 0} (f : X → Y) (xs : List X) (x : X) → Contains xs x → Contains (map f xs) (f x)
-contains_mapped f xs x (k, below, is) =
-    (k, subst (λ n. k < n) (sym (length-map xs f)) below, get_or-map f xs k x (f x) below ∙ ap f is)
+    counted_live old x.id (omega (arith, i, j, some))
 
 module _ {A : Type 0} (a b : AtlasValue) (names : Names) (asked : AtlasCall) (list : ChangeList A)
     (stepped : Step (state_of a) asked (atlas.Changed (rearrangement_of list)) (state_of b)) (exact : AreExactChanges list)
@@ -81,7 +79,7 @@ module _ {A : Type 0} (a b : AtlasValue) (names : Names) (asked : AtlasCall) (li
         → change_under (name_among (entries_in names)) c ≡ shown_change s.name (transfer_of c)
     said_change c at =
         let named = named_alike a names s h ordered all c.old.id (live_old s.state (state_of b) (rearrangement_of list) moves
-        (transfer_of c) (contains_mapped transfer_of list.changes.items c at)) in
+        (transfer_of c) (Contains-map transfer_of list.changes.items c at)) in
         let its = All-contains IsExactChange list.changes.items c exact.changes at in
         λ i. record {
           old = record { id = named i; rectangle = its.0 i };
@@ -92,7 +90,7 @@ module _ {A : Type 0} (a b : AtlasValue) (names : Names) (asked : AtlasCall) (li
         → failure_under (name_among (entries_in names)) x ≡ shown_grant s.name (grant_of x)
     said_failure x at =
         let named = named_alike a names s h ordered all x.id (live_failed s.state (state_of b) (rearrangement_of list) moves (grant_of x)
-        (contains_mapped grant_of list.failures.items x at)) in
+        (Contains-map grant_of list.failures.items x at)) in
         let its = All-contains (λ (y : Allocation). IsExact y.rectangle) list.failures.items x exact.failures at in
         λ i. record { id = named i; rectangle = its i }
 
@@ -165,11 +163,11 @@ module _ {A : Type 0} (a b : AtlasValue) (names : Names) (asked : AtlasCall) (li
             count_some (λ (n : Entry). n.id == id) followed.moved.names.items (entry_in (name, id)) at (eq-eqb id id refl) in
             let e = counts id in
             let one = once id in (
-              counted_is_live (state_of b) id (omega (arith, some, e)),
+              counted_live (state_of b) id (omega (arith, some, e)),
               name_of id followed.moved.names.items (entry_in (name, id)) (omega (arith, e, one)) at refl,
             ),
         λ (live, is).
-            let some = live_is_counted (state_of b) id live in
+            let some = live_counted (state_of b) id live in
             let e = counts id in
             let r = entry_of id followed.moved.names.items (omega (arith, some, e)) in
             let whole : r.0 ≡ entry_in (name, id) = λ i. record { name = (sym r.3 ∙ is) i; id = r.2 i } in

@@ -22,6 +22,7 @@ use Rattle.guillotiere.proofs.ListLemmas.ListCounts.{count_some}
 use Rattle.guillotiere.proofs.StepLemmas.SoundSteps.{steps_keep}
 use Rattle.guillotiere.proofs.StepLemmas.StepEffects.{grants_lie_inside, freeings_remove_one, growths_keep_boxes}
 use Rattle.guillotiere.proofs.TreeLemmas.TreeBasics.{one_if}
+use Rattle.guillotiere.proofs.StepLemmas.LiveBoxes.{counted_live, live_counted, few_live}
 use Rattle.guillotiere_recording.specs.declared.names.LiveName.{LiveName as Entry}
 use Rattle.guillotiere_recording.specs.Events.{EventValue, given_names}
 use Rattle.guillotiere_recording.specs.Events.EventValue.{Allocate, Deallocate, Grow, Rearrange, ResizeAndRearrange}
@@ -29,9 +30,9 @@ use Rattle.guillotiere_recording.specs.Logs.{RecordingValue, with_event}
 use Rattle.guillotiere_recording.specs.Sessions.{Named, IsLiveName, IsNamed, GrantsUnder, FreesUnder, Leads, LeadOn, fresh_session}
 use Rattle.guillotiere_recording.specs.Names.{entries_of, name_among, AreLiveIds}
 use Rattle.guillotiere_recording.specs.Recordings.{SessionValue, session_of, first_names, LeadsTo, IsRecordedSession}
-use Rattle.guillotiere_recording.proofs.Entries.{live_is_counted, counted_is_live, entry_of, name_of, entries_pushed, name_pushed}
+use Rattle.guillotiere_recording.proofs.Entries.{entry_of, name_of, entries_pushed, name_pushed}
 use Rattle.guillotiere_recording.proofs.Entries.{names_pushed, All-removed, names_removed, entries_removed}
-use Rattle.guillotiere_recording.proofs.NamedStates.{live_at_most_once, grant_counts, growth_counts, freed_is_gone, others_stay}
+use Rattle.guillotiere_recording.proofs.NamedStates.{grant_counts, growth_counts, freed_is_gone, others_stay}
 use Rattle.guillotiere_recording.proofs.Books.{sessions_are_named}
 
 -- One event more.
@@ -155,7 +156,7 @@ under name g = record { id = name; rectangle = g.rectangle }
 -- A name that is live is below those that are given next.
 live_below : (v : SessionValue) (name : ℕ) → IsRecordedSession v → IsLiveName (session_of v) name → name < v.given
 live_below v name h (id, live, is) =
-    let some : 1 ≤ live_count id (state_of v.atlas) = live_is_counted (state_of v.atlas) id live in
+    let some : 1 ≤ live_count id (state_of v.atlas) = live_counted (state_of v.atlas) id live in
     let r = entry_of id v.names (subst (λ n. 1 ≤ n) (sym (h.ids id)) some) in
     let few = All-contains (λ (n : Entry). n.name < v.given) v.names r.0 h.below r.1 in
     subst (λ n. n < v.given) (sym r.3 ∙ is) few
@@ -178,7 +179,7 @@ grants_under v a size g h step exact = record {
     grant = grants_lie_inside (state_of v.atlas) (state_of a) (sides_of size) (grant_of g) (session_named v h).sound step
 
     some : (id : ℕ) → IsLive (state_of v.atlas) id → 1 ≤ entries_of id v.names
-    some id live = subst (λ n. 1 ≤ n) (sym (h.ids id)) (live_is_counted (state_of v.atlas) id live)
+    some id live = subst (λ n. 1 ≤ n) (sym (h.ids id)) (live_counted (state_of v.atlas) id live)
 
     few : (id : ℕ) → entries_of id (v.names ++ named_entry v.given g ∷ []) ≤ 1
     few id =
@@ -187,7 +188,7 @@ grants_under v a size g h step exact = record {
         let c = grant_counts (state_of v.atlas) (state_of a) (sides_of size) (grant_of g) grant id in
         let sound = steps_keep (state_of v.atlas) (state_of a) (atlas.Allocate (sides_of size)) (atlas.Allocated (grant_of g))
         (session_named v h).sound step in
-        let one = live_at_most_once (state_of a) id sound in
+        let one = few_live (state_of a) id sound in
         omega (arith, e, i, c, one)
 
 pub granted_session : (v : SessionValue) (a : AtlasValue) (ns : List Entry) (r : RecordingValue) (size : Size)
@@ -257,7 +258,7 @@ freed_counts v a at d h below step id = by_test (eqb (get_or v.names at d).id id
         let less = entries_removed id v.names at d below in
         let one : one_if (eqb (get_or v.names at d).id id) ≡ 1 = ap one_if is in
         let i = h.ids id in
-        let only = live_at_most_once (state_of v.atlas) id (session_named v h).sound in
+        let only = few_live (state_of v.atlas) id (session_named v h).sound in
         let none = freed_is_gone (state_of v.atlas) (state_of a) (get_or v.names at d).id gone in
         let none_here : live_count id (state_of a) ≡ 0 = subst (λ k. live_count k (state_of a) ≡ 0)
         (eqb-true (get_or v.names at d).id id is) none in
@@ -284,10 +285,10 @@ frees_under v a at d h below step = record {
     here = (at, below, get_or_default v.names at (get_or v.names at d) d below)
 
     few : (id : ℕ) → entries_of id v.names ≤ 1
-    few id = let one = live_at_most_once (state_of v.atlas) id (session_named v h).sound in let i = h.ids id in omega (arith, one, i)
+    few id = let one = few_live (state_of v.atlas) id (session_named v h).sound in let i = h.ids id in omega (arith, one, i)
 
     some : (id : ℕ) → IsLive (state_of a) id → 1 ≤ entries_of id (remove v.names at)
-    some id live = subst (λ n. 1 ≤ n) (sym (freed_counts v a at d h below step id)) (live_is_counted (state_of a) id live)
+    some id live = subst (λ n. 1 ≤ n) (sym (freed_counts v a at d h below step id)) (live_counted (state_of a) id live)
 
 pub freed_session : (v : SessionValue) (a : AtlasValue) (ns : List Entry) (r : RecordingValue) (at : ℕ) (d : Entry)
     (name : ℕ)
@@ -321,15 +322,15 @@ pub entry_is_live : (v : SessionValue) (n : Entry) → IsRecordedSession v → C
     → IsLiveName (session_of v) n.name
 entry_is_live v n h at =
     let some : 1 ≤ entries_of n.id v.names = count_some (λ (m : Entry). m.id == n.id) v.names n at (eq-eqb n.id n.id refl) in
-    let one = live_at_most_once (state_of v.atlas) n.id (session_named v h).sound in
+    let one = few_live (state_of v.atlas) n.id (session_named v h).sound in
     let i = h.ids n.id in
-    let live : IsLive (state_of v.atlas) n.id = counted_is_live (state_of v.atlas) n.id (subst (λ k. 1 ≤ k) i some) in
+    let live : IsLive (state_of v.atlas) n.id = counted_live (state_of v.atlas) n.id (subst (λ k. 1 ≤ k) i some) in
     (n.id, live, name_of n.id v.names n (omega (arith, one, i)) at refl)
 
 pub live_has_entry : (v : SessionValue) (name : ℕ) → IsRecordedSession v → IsLiveName (session_of v) name
     → (n : Entry) × Contains v.names n × (n.name ≡ name)
 live_has_entry v name h (id, live, is) =
-    let some : 1 ≤ live_count id (state_of v.atlas) = live_is_counted (state_of v.atlas) id live in
+    let some : 1 ≤ live_count id (state_of v.atlas) = live_counted (state_of v.atlas) id live in
     let r = entry_of id v.names (subst (λ n. 1 ≤ n) (sym (h.ids id)) some) in
     (r.0, r.1, sym r.3 ∙ is)
 
@@ -367,7 +368,7 @@ pub found_is_live : (v : SessionValue) (at name id : ℕ) → IsRecordedSession 
 found_is_live v at name id h below is =
     let there : Contains v.names (entry name id) = (at, below, is) in
     let some : 1 ≤ entries_of id v.names = count_some (λ (m : Entry). m.id == id) v.names (entry name id) there (eq-eqb id id refl) in
-    (entry_is_live v (entry name id) h there, counted_is_live (state_of v.atlas) id (subst (λ k. 1 ≤ k) (h.ids id) some))
+    (entry_is_live v (entry name id) h there, counted_live (state_of v.atlas) id (subst (λ k. 1 ≤ k) (h.ids id) some))
 
 pub missing_is_not_live : (v : SessionValue) (name : ℕ) → IsRecordedSession v
     → All (λ (n : Entry). n.name ≡ name → ⊥) v.names

@@ -29,6 +29,7 @@ use Rattle.guillotiere.proofs.ListLemmas.CallerLemmas.{find-counted}
 use Rattle.guillotiere.proofs.ListLemmas.ListCounts.{count_by-cons}
 use Rattle.guillotiere.proofs.TreeLemmas.TreeBasics.{one_if}
 use Rattle.guillotiere.proofs.TreeLemmas.TreeIds.{Contains-none}
+use Rattle.guillotiere.proofs.StepLemmas.LiveBoxes.{live_counted, few_live}
 use Rattle.guillotiere_recording.specs.declared.steps.EventFault.{EventFault}
 use Rattle.guillotiere_recording.specs.declared.steps.EventFault.TheVariants as stop
 use Rattle.guillotiere_recording.specs.declared.event.Event.{Event}
@@ -42,8 +43,6 @@ use Rattle.guillotiere_recording.specs.Replays.{first_events, IsFaultOf, IsRecor
 use Rattle.guillotiere_recording.specs.Standing.{Names, ShowsNamed, CarriesOut, IsStopped, fault_of, shown_entry}
 use Rattle.guillotiere_recording.proofs.Books.{sessions_are_named, books_are_true, listed_is_live}
 use Rattle.guillotiere_recording.proofs.Counts.{count_map, count_alike}
-use Rattle.guillotiere_recording.proofs.Entries.{live_is_counted}
-use Rattle.guillotiere_recording.proofs.NamedStates.{live_at_most_once}
 use Rattle.guillotiere_recording.proofs.ReplaySteps.{at_same, at_other}
 use Rattle.guillotiere_recording.proofs.ShownBooks.{each_counts, box_of_live}
 use Rattle.guillotiere_recording.proofs.RecordedSessions.{recorded_more}
@@ -121,7 +120,7 @@ pub found_has_box : (a : AtlasValue) (names : Names) (s : Named) (name id : ℕ)
     → IsSome (live_box (state_of a) id)
 found_has_box a names s name id h is =
     let live : IsLive s.state id = ((h.finds name id).0 is).0 in
-    let some : 1 ≤ live_count id s.state = live_is_counted s.state id live in
+    let some : 1 ≤ live_count id s.state = live_counted s.state id live in
     let it = find-counted (λ (g : Grant). g.id == id) (live_in s.state) some in
     subst (λ (t : State). IsSome (live_box t id)) h.state
     (subst (λ (o : Option Grant). IsSome (option_map (λ (g : Grant). g.box) o)) (sym it.1) refl)
@@ -173,8 +172,8 @@ names_counted : (a : AtlasValue) (names : Names) (s : Named) → ShowsNamed a na
     → count_by (λ x. x == k) (map (λ (g : Grant). s.name g.id) (live_in s.state)) ≡ how_many o
 names_counted a names s h k (Some id) is =
     let has = (h.finds k id).0 is in
-    let some = live_is_counted s.state id has.0 in
-    let one = live_at_most_once s.state id h.named.sound in
+    let some = live_counted s.state id has.0 in
+    let one = few_live s.state id h.named.sound in
     let mapped = count_map (λ (g : Grant). s.name g.id) (λ x. x == k) (live_in s.state) in
     let alike : count_by (λ (g : Grant). s.name g.id == k) (live_in s.state) ≡ live_count id s.state =
     count_alike (λ (g : Grant). s.name g.id == k) (λ (g : Grant). g.id == id) (live_in s.state) (λ g at. told has.0 has.1 g at) in

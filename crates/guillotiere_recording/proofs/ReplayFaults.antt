@@ -16,6 +16,7 @@ use Rattle.guillotiere.specs.Steps.AtlasReply.{Allocated, NoRoom, Done, Changed,
 use Rattle.guillotiere.specs.Renaming.{renamed_grant, is_out_of_memory}
 use Rattle.guillotiere.proofs.ListLemmas.ListCounts.{count_by-weaker, split_at}
 use Rattle.guillotiere.proofs.TreeLemmas.TreeIds.{Contains-first}
+use Rattle.guillotiere.proofs.StepLemmas.LiveBoxes.{live_counted}
 use Rattle.guillotiere_recording.specs.declared.replay.ReplayFault.{ReplayFault}
 use Rattle.guillotiere_recording.specs.declared.replay.ReplayFault.TheVariants as fault
 use Rattle.guillotiere_recording.specs.Events.{EventValue}
@@ -28,7 +29,6 @@ use Rattle.guillotiere_recording.specs.Replays.{IsFaultOf, HasRearranging, MayFa
 use Rattle.guillotiere_recording.specs.Twins.{is_plain_event, Asks, Says}
 use Rattle.guillotiere_recording.proofs.Books.{sessions_are_named, books_are_true, listed_is_live}
 use Rattle.guillotiere_recording.proofs.Counts.{count_map}
-use Rattle.guillotiere_recording.proofs.Entries.{live_is_counted}
 use Rattle.guillotiere_recording.proofs.Twins.{twins_answer_alike, new_sessions_are_twins, events_keep_twins}
 
 -- Where an event stands among events that lead on, the session can be parted.
@@ -80,7 +80,7 @@ has_name name g = g.id == name
 
 name_counted : (s : Named) (name : ℕ) → IsLiveName s name → 1 ≤ count_by (has_name name) (named_boxes s)
 name_counted s name (id, live, is) =
-    let some = live_is_counted s.state id live in
+    let some = live_counted s.state id live in
     let mapped = count_map (renamed_grant s.name) (has_name name) (live_in s.state) in
     let more : count_by (λ g. g.id == id) (live_in s.state) ≤ count_by (λ (g : Grant). s.name g.id == name) (live_in s.state) =
     count_by-weaker (λ g. g.id == id) (λ g. s.name g.id == name)

@@ -10,11 +10,8 @@ use Rattle.std.specs.Result.{IsErrAnd, IfErr}
 use Rattle.std.proofs.lemmas.Bool.{eq-eqb, ne_eqb, false≢true, cases_eq, cases_order}
 use Rattle.guillotiere.specs.declared.Size.{Size}
 use Rattle.guillotiere.specs.declared.Allocation.{Allocation}
-use Rattle.guillotiere.specs.declared.AtlasError.{AtlasError}
-use Rattle.guillotiere.specs.declared.AtlasError.TheVariants as refusal
-use Rattle.guillotiere.specs.Boxes.{Fits}
-use Rattle.guillotiere.specs.Pixels.{sides_of, box_of, rectangle_of}
-use Rattle.guillotiere.specs.Trees.{Grant, grant}
+use Rattle.guillotiere.specs.Pixels.{sides_of, box_of}
+use Rattle.guillotiere.specs.Trees.{grant}
 use Rattle.guillotiere.specs.States.{State, IsLive}
 use Rattle.guillotiere.specs.Renaming.{with_name}
 use Rattle.guillotiere.specs.Replies.{grant_of, IsExact}
@@ -25,12 +22,11 @@ use Rattle.guillotiere.specs.Stored.{AtlasValue, state_of}
 use Rattle.guillotiere.proofs.TreeLemmas.RenamedTrees.{with_name-itself, with_name-other}
 use Rattle.guillotiere.proofs.StepLemmas.StepEffects.{grants_lie_inside, freeings_remove_one, growths_keep_boxes}
 use Rattle.guillotiere.proofs.TreeLemmas.TreeBasics.{one_if}
+use Rattle.guillotiere.proofs.StepLemmas.LiveBoxes.{counted_live, live_counted}
 use Rattle.guillotiere_recording.specs.declared.steps.EventFault.{EventFault}
 use Rattle.guillotiere_recording.specs.Events.EventValue.{Allocate, Deallocate, Grow}
 use Rattle.guillotiere_recording.specs.Sessions.{Named, IsLiveName, GrantsUnder, FreesUnder, Leads}
-use Rattle.guillotiere_recording.specs.Replays.{IsBad, AnswersOtherwise}
-use Rattle.guillotiere_recording.specs.Standing.{Names, Finds, ShowsNamed, CarriesOut, IsStopped, event_fault}
-use Rattle.guillotiere_recording.proofs.Entries.{live_is_counted, counted_is_live}
+use Rattle.guillotiere_recording.specs.Standing.{Names, Finds, ShowsNamed, CarriesOut}
 use Rattle.guillotiere_recording.proofs.NamedStates.{grant_counts, growth_counts, freeing_less, freed_is_gone, others_stay}
 use Rattle.guillotiere_recording.proofs.NamedStates.{events_keep_names}
 
@@ -92,28 +88,28 @@ module _ (a b : AtlasValue) (names left : Names) (size : Size) (recorded granted
 
     still_other : (id : ℕ) → IsLive s.state id → id ≡ granted.id → ⊥
     still_other id live is =
-        let some : 1 ≤ live_count id s.state = live_is_counted s.state id live in
+        let some : 1 ≤ live_count id s.state = live_counted s.state id live in
         let none : live_count id s.state ≡ 0 = ap (λ k. live_count k s.state) is ∙ grant_step.id in
         omega (arith, some, none)
 
     grown_live : (id : ℕ) → IsLive s.state id → IsLive (state_of b) id
     grown_live id live =
-        let some : 1 ≤ live_count id s.state = live_is_counted s.state id live in
+        let some : 1 ≤ live_count id s.state = live_counted s.state id live in
         let counts = grant_counts s.state (state_of b) (sides_of size) (grant_of granted) grant_step id in
-        counted_is_live (state_of b) id (omega (arith, some, counts))
+        counted_live (state_of b) id (omega (arith, some, counts))
 
     new_live : IsLive (state_of b) granted.id
     new_live =
         let counts = grant_counts s.state (state_of b) (sides_of size) (grant_of granted) grant_step granted.id in
         let one : one_if (granted.id == granted.id) ≡ 1 = ap one_if (eq-eqb granted.id granted.id refl) in
-        counted_is_live (state_of b) granted.id (omega (arith, counts, one))
+        counted_live (state_of b) granted.id (omega (arith, counts, one))
 
     was_live : (id : ℕ) → (id ≡ granted.id → ⊥) → IsLive (state_of b) id → IsLive s.state id
     was_live id other live =
-        let some : 1 ≤ live_count id (state_of b) = live_is_counted (state_of b) id live in
+        let some : 1 ≤ live_count id (state_of b) = live_counted (state_of b) id live in
         let counts = grant_counts s.state (state_of b) (sides_of size) (grant_of granted) grant_step id in
         let none : one_if (granted.id == id) ≡ 0 = ap one_if (ne_eqb granted.id id (λ is. other (sym is))) in
-        counted_is_live s.state id (omega (arith, some, counts, none))
+        counted_live s.state id (omega (arith, some, counts, none))
 
     granted_leads : GrantsUnder s size recorded
         (record { state = state_of b; name = with_name s.name granted.id recorded.id })
@@ -208,15 +204,15 @@ freed_on a b names left name id its stepped updates s h = (
         by_name (inr other) is =
             let was = (h.finds n k).0 (sym (updates.2 n (at_other name n other)) ∙ is) in
             let apart : id ≡ k → ⊥ = λ one. other (sym was.1 ∙ ap s.name (sym one) ∙ ((h.finds name id).0 its).1) in
-            let some : 1 ≤ live_count k s.state = live_is_counted s.state k was.0 in
+            let some : 1 ≤ live_count k s.state = live_counted s.state k was.0 in
             let counts = others_stay s.state (state_of b) id effect k (ne_eqb id k apart) in
-            (counted_is_live (state_of b) k (omega (arith, some, counts)), was.1)
+            (counted_live (state_of b) k (omega (arith, some, counts)), was.1)
 
         back : IsLive (state_of b) k → s.name k ≡ n → get nat_cmp left n ≡ Some k
         back live is =
-            let some : 1 ≤ live_count k (state_of b) = live_is_counted (state_of b) k live in
+            let some : 1 ≤ live_count k (state_of b) = live_counted (state_of b) k live in
             let less = freeing_less s.state (state_of b) id effect k in
-            let was : IsLive s.state k = counted_is_live s.state k (omega (arith, some, less)) in
+            let was : IsLive s.state k = counted_live s.state k (omega (arith, some, less)) in
             let had : get nat_cmp names n ≡ Some k = (h.finds n k).1 (was, is) in
             let gone = freed_is_gone s.state (state_of b) id effect in
             updates.2 n (at_other name n (λ same.
@@ -248,64 +244,16 @@ grown_on a b names size stepped s h = (
     finds n k = (
       λ is.
           let was = (h.finds n k).0 is in
-          let some : 1 ≤ live_count k s.state = live_is_counted s.state k was.0 in
+          let some : 1 ≤ live_count k s.state = live_counted s.state k was.0 in
           let same = counts k in
-          (counted_is_live (state_of b) k (omega (arith, some, same)), was.1),
+          (counted_live (state_of b) k (omega (arith, some, same)), was.1),
       λ (live, is).
-          let some : 1 ≤ live_count k (state_of b) = live_is_counted (state_of b) k live in
+          let some : 1 ≤ live_count k (state_of b) = live_counted (state_of b) k live in
           let same = counts k in
-          (h.finds n k).1 (counted_is_live s.state k (omega (arith, some, same)), is),
+          (h.finds n k).1 (counted_live s.state k (omega (arith, some, same)), is),
     )
 
 -- Refusals
-
-pub refused_grant : (a b : AtlasValue) (names : Names) (size : Size) (answer : Option Allocation) (e : AtlasError)
-    → ((s : Named) → ShowsNamed a names s → IsBad s (Allocate size answer) → ⊥)
-    → Step (state_of a) (atlas.Allocate (sides_of size)) (atlas.Refused e) (state_of b) → b ≡ a
-    → IsStopped a names (Allocate size answer) (event_fault e)
-refused_grant a b names size answer refusal.Memory good stepped same = tt
-refused_grant a b names size answer refusal.NotLive good stepped same = λ s h. absurd stepped
-refused_grant a b names size (Some recorded) refusal.Slots good stepped same = λ s h. record {
-  good = good s h;
-  call = atlas.Allocate (sides_of size);
-  asked = refl;
-  step = step_of a names s (atlas.Allocate (sides_of size)) (atlas.Refused refusal.Slots) s.state h
-      (subst (λ t. Step (state_of a) (atlas.Allocate (sides_of size)) (atlas.Refused refusal.Slots) t) (ap state_of same ∙ sym h.state)
-      stepped);
-}
-refused_grant a b names size None refusal.Slots good stepped same = λ s h. record {
-  good = good s h;
-  call = atlas.Allocate (sides_of size);
-  asked = refl;
-  step = step_of a names s (atlas.Allocate (sides_of size)) (atlas.Refused refusal.Slots) s.state h
-      (subst (λ t. Step (state_of a) (atlas.Allocate (sides_of size)) (atlas.Refused refusal.Slots) t) (ap state_of same ∙ sym h.state)
-      stepped);
-}
-
-pub refused_growth : (a b : AtlasValue) (names : Names) (size : Size) (e : AtlasError)
-    → Fits (state_of a).size (sides_of size)
-    → Step (state_of a) (atlas.Grow (sides_of size)) (atlas.Refused e) (state_of b) → b ≡ a
-    → IsStopped a names (Grow size) (event_fault e)
-refused_growth a b names size refusal.Memory fits stepped same = tt
-refused_growth a b names size refusal.NotLive fits stepped same = λ s h. absurd stepped
-refused_growth a b names size refusal.Slots fits stepped same = λ s h. record {
-  good = λ bad. bad (subst (λ (t : State). Fits t.size (sides_of size)) (sym h.state) fits);
-  call = atlas.Grow (sides_of size);
-  asked = refl;
-  step = step_of a names s (atlas.Grow (sides_of size)) (atlas.Refused refusal.Slots) s.state h
-      (subst (λ t. Step (state_of a) (atlas.Grow (sides_of size)) (atlas.Refused refusal.Slots) t) (ap state_of same ∙ sym h.state)
-      stepped);
-}
-
--- A freeing of an id that was found isn't refused.
-pub refused_freeing : (a b : AtlasValue) (names : Names) (name id : ℕ) (e : AtlasError)
-    → get nat_cmp names name ≡ Some id
-    → Step (state_of a) (atlas.Deallocate id) (atlas.Refused e) (state_of b)
-    → IsStopped a names (Deallocate name) (event_fault e)
-refused_freeing a b names name id refusal.Memory its stepped = tt
-refused_freeing a b names name id refusal.Slots its stepped = λ s h. absurd stepped
-refused_freeing a b names name id refusal.NotLive its stepped = λ s h live.
-    stepped.0 (subst (λ t. IsLive t id) h.state ((h.finds name id).0 its).0)
 
 -- What a fault says that is another one's.
 

@@ -18,13 +18,13 @@ use Rattle.guillotiere.specs.Stored.{state_of}
 use Rattle.guillotiere.proofs.ListLemmas.CallerLemmas.{find-counted, find-counted_once}
 use Rattle.guillotiere.proofs.ListLemmas.ListCounts.{count_by-cons, count_by-append, count_some, split_at, IsSplitAt}
 use Rattle.guillotiere.proofs.TreeLemmas.TreeBasics.{one_if}
+use Rattle.guillotiere.proofs.StepLemmas.LiveBoxes.{few_live}
 use Rattle.guillotiere_recording.specs.declared.names.LiveName.{LiveName as Entry}
 use Rattle.guillotiere_recording.specs.Books.{AreSameGrants, book}
 use Rattle.guillotiere_recording.specs.Names.{entries_of, name_among, box_or_none, shown}
 use Rattle.guillotiere_recording.specs.Recordings.{SessionValue, session_of, AreBooked, IsRecordedSession}
 use Rattle.guillotiere_recording.proofs.Counts.{count_map, count_alike}
 use Rattle.guillotiere_recording.proofs.Entries.{name_of}
-use Rattle.guillotiere_recording.proofs.NamedStates.{live_at_most_once}
 use Rattle.guillotiere_recording.proofs.Books.{books_are_true}
 use Rattle.guillotiere_recording.proofs.RecordedSessions.{session_named}
 
@@ -71,7 +71,7 @@ each_counts (x ∷ xs) ys h q = found (split_at (λ z. z == x) ys some) (λ zs m
 pub box_of_live : (s : State) (g : Grant) → IsSound s → Contains (live_in s) g → box_or_none (live_box s g.id) ≡ g.box
 box_of_live s g sound at =
     let it : find (λ (k : Grant). k.id == g.id) (live_in s) ≡ Some g =
-    find-counted_once (λ k. k.id == g.id) (live_in s) g (live_at_most_once s g.id sound) at (eq-eqb g.id g.id refl) in
+    find-counted_once (λ k. k.id == g.id) (live_in s) g (few_live s g.id sound) at (eq-eqb g.id g.id refl) in
     ap (λ (o : Option Grant). box_or_none (option_map (λ (k : Grant). k.box) o)) it
 
 -- Each entry's id has a box.
@@ -109,7 +109,7 @@ shown_book v found h is = subst (AreBooked v.recording.events) (sym is) it
 
         named : (n : Entry) → Contains v.names n → p (grant_of (shown (state_of v.atlas) n)) ≡ p (under_name n.id)
         named n there =
-            let one = live_at_most_once (state_of v.atlas) n.id (session_named v h).sound in
+            let one = few_live (state_of v.atlas) n.id (session_named v h).sound in
             let i = h.ids n.id in
             ap (λ m. p (grant m (box_or_none (live_box (state_of v.atlas) n.id))))
             (sym (name_of n.id v.names n (omega (arith, one, i)) there refl))

@@ -1,11 +1,10 @@
 -- What an error of a request to a page says, and what is so of a page that isn't there.
-use Rattle.std.proofs.Common.{◌≡◌, ◌<◌, ◌≤◌, ◌∙◌, ℕ, List, Option, Result, Ok, Err, Some, None, length, slice_get}
-use Rattle.std.proofs.Common.{IfErr, IsErrAnd, arith, inl, inr, subst, sym, refl}
-use Rattle.std.proofs.lemmas.Option.{slice_get_cases, slice_get_past}
+use Rattle.std.proofs.Common.{◌≡◌, ◌<◌, ℕ, List, Option, Result, Ok, Err, Some, length, slice_get}
+use Rattle.std.proofs.Common.{IfErr, IsErrAnd, arith, inl, inr, subst, sym}
+use Rattle.std.proofs.lemmas.Option.{slice_get_cases}
 use Rattle.guillotiere.specs.declared.Allocation.{Allocation}
 use Rattle.guillotiere.specs.declared.AtlasError.{AtlasError}
 use Rattle.guillotiere.specs.Callers.{IsShortage}
-use Rattle.guillotiere.specs.Pages.{LeavesNoBoxOn}
 use Rattle.guillotiere.specs.Stored.{AtlasValue}
 use Rattle.guillotiere_total.specs.declared.error.CallError.{CallError}
 use Rattle.guillotiere_total.specs.declared.error.CallError.TheVariants.{Refused}
@@ -24,12 +23,3 @@ module _ (X : AtlasValue → Type 0) (pages : List AtlasValue) (page : ℕ) (e :
       → IfErr r (IsPageFault IsShortage (length pages) page)
   page_fault (Ok x) is = tt
   page_fault (Err x) is = subst (IsPageFault IsShortage (length pages) page) (sym is) (within, short_page)
-
--- On a page that isn't there no id has a box, and nothing changes.
-pub leaves_off_pages : (pages : List AtlasValue) (page id : ℕ) → length pages ≤ page → LeavesNoBoxOn pages pages page id
-leaves_off_pages pages page id past = record {
-  leaves = λ s t was is. absurd (let some : None ≡ Some s = sym (slice_get_past pages page past) ∙ was in cc);
-  others = λ k other. refl;
-  gone = let none = slice_get_past pages page past in rw none refl;
-  same = λ k i other. refl;
-}

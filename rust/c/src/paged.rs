@@ -63,8 +63,8 @@ pub extern "C" fn guillotiere_paged_new(
     start(alloc, width, height, &DEFAULT_OPTIONS, most, paged)
 }
 
-/// The same with these options, of the atlas of each page. `DONE`; `BAD_CALL` if a side isn't above 0 or the options aren't
-/// valid; `MEMORY`; `OCCUPIED`, before all others, if the handle holds one already.
+/// Makes a paged atlas as `guillotiere_paged_new` does, the atlas of each page with these options. `DONE`; `BAD_CALL` if a side
+/// isn't above 0 or the options aren't valid; `MEMORY`; `OCCUPIED`, before all others, if the handle holds one already.
 #[no_mangle]
 pub extern "C" fn guillotiere_paged_with_options(
     width: i32,

@@ -1,6 +1,6 @@
 -- What the free boxes have room for, and the largest of them.
-use Rattle.std.proofs.Common.{ℕ, zero, suc, ◌+◌, ◌<◌, ◌≤◌, ◌≡◌, Bool, true, false, cond, List, [], ◌∷◌, map, All, Contains}
-use Rattle.std.proofs.Common.{get_or, drop, refl, sym, ap, subst, ◌∙◌, arith, Option, Some, None, inl, inr, IfSome, IfNone, ◌^◌, length}
+use Rattle.std.proofs.Common.{ℕ, ◌+◌, ◌<◌, ◌≤◌, ◌≡◌, Bool, true, false, cond, List, [], ◌∷◌, map, All, Contains}
+use Rattle.std.proofs.Common.{get_or, drop, refl, sym, ap, subst, ◌∙◌, arith, Option, Some, None, inl, inr, IfSome, IfNone, ◌^◌}
 use Rattle.std.proofs.lemmas.List.Elements.{All-nil, All-cons, All-head, All-tail, All-map, All-contains, All-contains_itself}
 use Rattle.std.proofs.lemmas.List.Sums.{sum_by-cons}
 use Rattle.std.specs.List.{sum_by}
@@ -18,12 +18,13 @@ use Rattle.atlas_store.specs.Visits.{AreFreeAreas, free_areas}
 use Rattle.atlas_store.specs.Walks.{IsShownArea}
 use Rattle.atlas_store.specs.declared.slots.Slot.{Slot}
 use Rattle.atlas_store.proofs.WalkLemmas.AreaSums.{IsMoreArea, IsPastArea}
-use Rattle.atlas_model.proofs.ListLemmas.CountSums.{sum_by-counts}
+use Rattle.atlas_model.proofs.ListLemmas.CountSums.{sum_by-counts, sum_by-map}
 use Rattle.atlas_model.proofs.TreeLemmas.TreeBasics.{same_box-true, same_box-itself}
 use Rattle.atlas_model.proofs.TreeLemmas.TreeIds.{Contains-first, Contains-later, Contains-none, Contains-cons_cases}
 use Rattle.atlas_model.specs.Boxes.{same_box}
 use Rattle.atlas_store.specs.Stored.{Stored, IsAtlas, state_of}
 use Rattle.atlas_model.specs.declared.geometry.Size.{Size}
+use Rattle.atlas_model.proofs.ListLemmas.CallerLemmas.{Contains-map}
 use Rattle.atlas_search.specs.Requests.{CanBeRounded}
 use Rattle.atlas_store.proofs.WalkLemmas.AreaSums.{free_sum-IsAtlas, free_sum-fits, small-IsAtlas}
 use Rattle.atlas_allocator.proofs.AtlasLemmas.GrantedAtlas.{no_room-unrounded}
@@ -187,13 +188,6 @@ module _ (best next : Option Rectangle) (same : next ≡ best) (xs : List Slot) 
   best-before P h =
       subst (λ l. P (and_maybe best l)) (sym past.list) (subst (λ n. P (and_maybe n (free_areas (nodes (drop (i + 1) xs))))) same h)
 
--- Past all slots.
-pub free-end : (xs : List Slot) (i : ℕ) → length xs ≤ i → free_areas (nodes (drop i xs)) ≡ []
-free-end [] zero h = refl
-free-end [] (suc i) h = refl
-free-end (x ∷ xs) zero h = absurd (omega (arith, h))
-free-end (x ∷ xs) (suc i) h = free-end xs i (omega (arith, h))
-
 -- All slots.
 
 module _ (best : Option Rectangle) (all : List Rectangle) where
@@ -205,18 +199,7 @@ module _ (best : Option Rectangle) (all : List Rectangle) where
       by_best None h = tt
       by_best (Some b) h = h b (largest-alone b)
 
-  pub none-end : (and_maybe best [] ≡ [] → all ≡ []) → IfNone best (all ≡ [])
-  none-end h = by_best best h
-    where
-      by_best : (b : Option Rectangle) → (and_maybe b [] ≡ [] → all ≡ []) → IfNone b (all ≡ [])
-      by_best None h = h refl
-      by_best (Some b) h = tt
-
 -- Of an atlas.
-
-sum_by-map : {X Y : Type 0} (f : Y → ℕ) (g : X → Y) (xs : List X) → sum_by f (map g xs) ≡ sum_by (λ x. f (g x)) xs
-sum_by-map f g [] = refl
-sum_by-map f g (x ∷ xs) = omega (arith, sum_by-cons f (g x) (map g xs), sum_by-cons (λ x. f (g x)) x xs, sum_by-map f g xs)
 
 sum_by-same : {X : Type 0} (f g : X → ℕ) (xs : List X) → All (λ x. f x ≡ g x) xs → sum_by f xs ≡ sum_by g xs
 sum_by-same f g [] all = refl
@@ -229,7 +212,7 @@ sum_by-same f g (x ∷ xs) all =
       sum_by-same f g xs (All-tail (λ x. f x ≡ g x) x xs all),
     )
 
-lost-small : (r : Sides) (b : Box) → lost r b ≤ area b
+pub lost-small : (r : Sides) (b : Box) → lost r b ≤ area b
 lost-small r b = by_test (fits_box r b)
   where
     by_test : (t : Bool) → cond t 0 (area b) ≤ area b
@@ -246,13 +229,6 @@ lost_area-small r (a ∷ areas) =
       lost-small r (box_of a),
       lost_area-small r areas,
     )
-
-Contains-map : {X Y : Type 0} (f : X → Y) (xs : List X) (x : X) → Contains xs x → Contains (map f xs) (f x)
-Contains-map f [] x at = absurd (Contains-none x at)
-Contains-map f (z ∷ xs) x at = elim (Contains-cons_cases z xs x at) [
-  | inl same ↦ subst (λ k. Contains (f z ∷ map f xs) (f k)) same (Contains-first (f z) (map f xs))
-  | inr later ↦ Contains-later (f z) (map f xs) (f x) (Contains-map f xs x later)
-]
 
 nothing : (bs : List Box) → All (λ b. ⊥) bs → bs ≡ []
 nothing [] all = refl

@@ -1,7 +1,7 @@
 -- Freeing the ids of a list one after another.
 use Rattle.std.proofs.Common.{ℕ, ◌+◌, ◌≤◌, ◌<◌, ◌≡◌, Bool, true, false, cond, List, [], ◌∷◌, length, drop, get_or, refl}
 use Rattle.std.proofs.Common.{sym, ap, subst, ◌∙◌, inl, inr, arith, Contains}
-use Rattle.std.proofs.lemmas.Bool.{ne_eqb, eqb-false}
+use Rattle.std.proofs.lemmas.Bool.{ne_eqb, eqb-false, or_parts}
 use Rattle.std.proofs.lemmas.List.{drop_more, drop_all}
 use Rattle.std.proofs.lemmas.List.Elements.{Contains-append_left, Contains-append_right, Contains-append_cases}
 use Rattle.atlas_store.specs.Batches.{AreLiveOnce, AreNamedOnce}
@@ -18,7 +18,6 @@ use Rattle.atlas_model.proofs.TreeLemmas.TreeCounts.{release_nodes}
 use Rattle.atlas_model.proofs.TreeLemmas.TreeNormal.{release-none, release-release}
 use Rattle.atlas_model.proofs.StepLemmas.SoundSteps.{freeing_sound}
 use Rattle.atlas_store.proofs.WalkLemmas.FreedAtlas.{state-freed, live-named, named-live}
-use Rattle.atlas_store.proofs.WalkLemmas.HiddenSlots.{or-parts}
 
 -- The state once the ids of a list are freed, one after another.
 abbrev pub after_each : State → List ℕ → State
@@ -64,7 +63,7 @@ pub once-after : (s : State) (id : ℕ) (rest : List ℕ) → AreLiveOnce s rest
     → AreLiveOnce (after_freeing s (only id)) rest
 once-after s id [] h out = tt
 once-after s id (x ∷ rest) h out =
-    let parts = or-parts (only x id) (is_among rest id) out in
+    let parts = or_parts (only x id) (is_among rest id) out in
     (live-after s id x h.0 (λ e. eqb-false id x parts.0 (sym e)), h.1, once-after s id rest h.2 parts.1)
 
 -- A step of the loop over the list.

@@ -48,11 +48,12 @@ use Rattle.atlas_store.proofs.StoreLemmas.PickedSlots.{rest-free}
 use Rattle.atlas_store.proofs.StoreLemmas.UnusedCounts.{unused_list-count}
 use Rattle.atlas_tree.proofs.PlanLemmas.PlannedTrees.{IsPlacing, planned-tree, planned-used, need-read}
 use Rattle.atlas_tree.proofs.PlanLemmas.PlannedSlots.{planned-first, planned-unused}
-use Rattle.atlas_allocator.proofs.AtlasLemmas.UnsignedRectangles.{sides_of-size, unsigned_of}
+use Rattle.atlas_allocator.proofs.AtlasLemmas.UnsignedRectangles.{sides_of-size}
 use Rattle.atlas_tree.proofs.PlanLemmas.ChosenSlots.{chosen-inside, chosen-exact, chosen-fits}
 use Rattle.atlas_model.proofs.StepLemmas.CallerSteps.{grant_adds}
 use Rattle.atlas_store.proofs.WalkLemmas.NamedSlots.{named-true, named-IsAtlas}
 use Rattle.atlas_store.proofs.WalkLemmas.StoredAtlas.{nodes-short, members-IsAtlas, tree_of-IsAtlas, used-IsAtlas}
+use Rattle.atlas_store.proofs.SlotLemmas.SlotAreas.{exact_of}
 
 -- The state after a placing, of its parts.
 state-placed : (new old : State) (f : Box) (r : Sides) (id : ℕ) → new.tree ≡ place old.size f r id old.tree
@@ -326,7 +327,7 @@ module _ (v : Stored) (a : IsAtlas v) (request : Sides) (size : Size) (sized : C
                     capacity = 0;
                   }))) (sym (ap box_of there)) (made_in turns before),
             ));
-            exact = unsigned_of allocation.rectangle cut there;
+            exact = exact_of allocation.rectangle cut there;
           })
 
 -- A request has room if a slot was found for it.

@@ -12,8 +12,8 @@ use Rattle.atlas_model.specs.Boxes.Axis.{Horizontal, Vertical}
 use Rattle.atlas_model.specs.Choice.{AreValid}
 use Rattle.atlas_model.specs.Pixels.{natural, options_of, sides_of}
 use Rattle.atlas_model.specs.States.{IsSound}
-use Rattle.atlas_model.specs.Trees.{most_slots, total}
-use Rattle.atlas_model.proofs.TreeLemmas.TreeBasics.{live_among}
+use Rattle.atlas_model.specs.Trees.{most_slots}
+use Rattle.atlas_model.proofs.TreeLemmas.TreeBasics.{live_among, side_positive}
 use Rattle.atlas_search.specs.declared.link.Link.{Link}
 use Rattle.atlas_search.specs.Numbers.{no_slot}
 use Rattle.atlas_store.specs.declared.slots.Node.{Node}
@@ -22,31 +22,23 @@ use Rattle.atlas_store.specs.declared.slots.NodeKind.TheVariants as kind
 use Rattle.atlas_store.specs.declared.slots.Slot.{Slot}
 use Rattle.atlas_store.specs.Slots.{node_at, node_of, nodes, use_count}
 use Rattle.atlas_store.specs.Slots.Growing.{top_along}
-use Rattle.atlas_store.specs.Slots.Numbered.{Numbered, erase, first_slot, numbers, End}
+use Rattle.atlas_store.specs.Slots.Numbered.{Numbered, erase, first_slot, numbers}
 use Rattle.atlas_store.specs.Slots.Reading.{tree_of}
 use Rattle.atlas_store.specs.Slots.Standing.{Sequence, Stands}
 use Rattle.atlas_store.specs.declared.store.Store.{Store}
 use Rattle.atlas_store.specs.Store.Holdings.{shelf_of}
 use Rattle.atlas_store.specs.Store.Restoring.{CanRestore, IsRestored, StandWhole, image_node, next_of}
 use Rattle.atlas_store.specs.Stored.{AtlasValue, Holding, Holds, IsAtlas, IsDetachedOnly, Stored, state_of}
-use Rattle.atlas_store.proofs.SlotLemmas.Frames.{Standing-same, same-self}
+use Rattle.atlas_store.proofs.SlotLemmas.Frames.{Standing-same}
 use Rattle.atlas_store.proofs.SlotLemmas.Normal.{numbers-erase}
 use Rattle.atlas_store.proofs.SlotLemmas.ReadTrees.{HasMember, numbers-few, tree_of-Stands}
 use Rattle.atlas_store.proofs.SlotLemmas.Spots.{spot-origin}
 use Rattle.atlas_store.proofs.StoreLemmas.Sizes.{size_is}
-use Rattle.atlas_store.proofs.WalkLemmas.StoredAtlas.{nonempty-IsAtlas}
-
-some_member : (n : Numbered) → 0 < total (erase n) → HasMember n
-some_member End l = absurd (omega arith)
-some_member n l = omega (arith, same-self)
+use Rattle.atlas_store.proofs.WalkLemmas.StoredAtlas.{nonempty-IsAtlas, nonempty-total}
 
 side_below : (a : Axis) (s : Sides) (m : ℕ) → s.width < m → s.height < m → side a s < m
 side_below Horizontal s m w h = w
 side_below Vertical s m w h = h
-
-side_above : (a : Axis) (s : Sides) → IsPositive s → 0 < side a s
-side_above Horizontal s h = h.0
-side_above Vertical s h = h.1
 
 -- The sequence of the tree's members.
 abbrev pub whole_in : Axis → Sides → Sequence
@@ -64,7 +56,7 @@ module _ (ns : List Node) (size : Sides) (options : AllocatorOptions) (first : �
         top = refl;
         stands = t.stands;
         cut = t.cut;
-        wide = side_above (other t.axis) size positive;
+        wide = side_positive (other t.axis) size positive;
         across = omega (arith, side_below (other t.axis) size (2 ^ 31) w h);
         along = omega (arith, t.along, side_below t.axis size (2 ^ 31) w h);
       }
@@ -72,7 +64,7 @@ module _ (ns : List Node) (size : Sides) (options : AllocatorOptions) (first : �
   -- The tree that is read from the nodes.
   tree_is : length ns < no_slot → tree_of ns ≡ record { axis = t.axis; members = erase n }
   tree_is short = tree_of-Stands ns s n short refl t.stands
-      (some_member n (omega (arith, t.along, side_above t.axis size positive)))
+      (nonempty-total n (omega (arith, t.along, side_positive t.axis size positive)))
 
   -- A state with this tree is sound.
   tree_sound : (limit kept : ℕ) → AreValid (options_of options) → length ns ≡ kept → kept ≤ limit → length ns ≤ 2 ^ 24

@@ -32,6 +32,7 @@ use Rattle.atlas_store.proofs.SlotLemmas.Frames.{same-ne, same-self}
 use Rattle.atlas_store.proofs.SlotLemmas.Spots.{moved-spot, spot-origin, spot-other}
 use Rattle.atlas_store.proofs.StoreLemmas.Lines.{Line-inside}
 use Rattle.atlas_store.proofs.WalkLemmas.StoredAtlas.{tree_of-IsAtlas}
+use Rattle.atlas_store.proofs.StoreLemmas.StoreSteps.{length-rings}
 
 -- The list of unused slots.
 
@@ -47,15 +48,11 @@ next_at [] i l z = absurd (omega arith)
 next_at (s ∷ ss) zero l z = unused_next s.kind s z
 next_at (s ∷ ss) (suc i) l z = next_at ss i (omega arith) z
 
-rings_long : (ss : List Slot) → length (rings ss) ≡ length ss
-rings_long [] = refl
-rings_long (s ∷ ss) = ap suc (rings_long ss)
-
 image_line : (ss : List Slot) (xs : List ℕ) → Line (rings ss) xs
     → ((i : ℕ) → 0 < occurs i xs → use_count (node_at (nodes ss) i).kind ≡ 0) → NodeLine (map image_node ss) xs
 image_line ss [] h u = tt
 image_line ss (x ∷ xs) h u = (
-  omega (arith, h.0, rings_long ss, length-map ss image_node),
+  omega (arith, h.0, length-rings ss, length-map ss image_node),
   ap (λ (l : Link). l.number) (next_at ss x h.0 (u x (omega (arith, same-self x)))) ∙ h.1,
   image_line ss xs h.2 (λ i l. u i (omega (arith, l))),
 )
@@ -69,7 +66,7 @@ image_unused v h holds =
       begins = f.begins;
       each = λ i l. omega (
         arith,
-        f.each i (omega (arith, l, rings_long v.slots, length-map v.slots image_node)),
+        f.each i (omega (arith, l, length-rings v.slots, length-map v.slots image_node)),
         ap use_count (kinds-at v.slots i),
       );
     }
@@ -181,17 +178,6 @@ pub record IsFit (i : Image) : Type 0 where
   pub most : i.limit ≤ most_slots
 
 module _ (i : Image) (k : IsImage i) where
-  pub image-fits : IsFit i
-  image-fits =
-      let v = k.atlas.stored in
-      let a = k.is_atlas in
-      subst IsFit k.image (record {
-        positive = a.sound.well_formed.nonempty;
-        valid = a.sound.valid;
-        limited = omega (arith, a.sound.limited, length-map v.shelf.slots image_node);
-        most = a.limited;
-      })
-
   pub image-accepted : AreImaged i.nodes i.unused i.size i.options k.atlas.stored.first
   image-accepted = subst (λ (x : Image). AreImaged x.nodes x.unused x.size x.options k.atlas.stored.first) k.image
       (kept-imaged k.atlas.stored k.is_atlas)

@@ -40,7 +40,7 @@ pub exact-sorted : (s : State) (found sorted : List Allocation) → AreGrants s 
 exact-sorted s found sorted grants moved = All-permutation HasExactRectangle found sorted moved grants.exact
 
 -- What holds of each transfer of a list, of each of its changes.
-changes_of : (P : Transfer → Type 0) (changes : List Change) → All P (map transfer_of changes)
+pub changes_of : (P : Transfer → Type 0) (changes : List Change) → All P (map transfer_of changes)
     → All (λ c. P (transfer_of c)) changes
 changes_of P [] all = All-nil (λ c. P (transfer_of c))
 changes_of P (c ∷ rest) all =

@@ -1,6 +1,6 @@
 -- The order in which grants are placed anew.
 use Rattle.std.proofs.Common.{◌≡◌, ℕ, suc, ◌+◌, ◌%◌, ◌^◌, ◌==◌, ◌<◌, ◌≤◌, ◌⊎◌, Bool, true, false, List, [], ◌∷◌, map}
-use Rattle.std.proofs.Common.{length, get_or, All, IsPermutation, refl, ap, subst, ◌∙◌, inl, inr, add-one, arith}
+use Rattle.std.proofs.Common.{length, get_or, All, IsPermutation, refl, ap, subst, inl, inr, add-one, arith}
 use Rattle.std.proofs.Common.{Ordering}
 use Rattle.std.proofs.Math.Nat.{eq-or-lt_of_le}
 use Rattle.std.proofs.lemmas.Bool.{eq-eqb, eqb-true}
@@ -21,6 +21,7 @@ use Rattle.atlas_model.specs.declared.allocation.Allocation.{Allocation}
 use Rattle.atlas_model.proofs.TreeLemmas.BoxLists.{same_grant, same_grant-itself, same_grant-true}
 use Rattle.atlas_model.proofs.ListLemmas.ListCounts.{count_by-cons, permuted_from_counts}
 use Rattle.atlas_model.proofs.TreeLemmas.TreeBasics.{one_if}
+use Rattle.atlas_model.proofs.StepLemmas.RefitOrders.{onward}
 
 abbrev slot_of : Grant → ℕ
 slot_of g = g.id % 2 ^ 24
@@ -68,12 +69,6 @@ IsNotBefore g h = (rank_of h < rank_of g) ⊎ ((rank_of h ≡ rank_of g) × (slo
 lexical : (a b m n : ℕ) → is_lt (ordering_then (nat_cmp a b) (nat_cmp m n)) ≡ false → (b < a) ⊎ ((b ≡ a) × (n ≤ m))
 lexical a b m n = grind arith
 
-precedes_through : (f g h : Grant) → Precedes f g → Precedes g h → Precedes f h
-precedes_through f g h (inl a) (inl b) = inl (omega arith)
-precedes_through f g h (inl a) (inr b) = inl (omega (arith, b.0))
-precedes_through f g h (inr a) (inl b) = inl (omega (arith, a.0))
-precedes_through f g h (inr a) (inr b) = inr (b.0 ∙ a.0, omega (arith, a.1, b.1))
-
 -- Neighbours in order whose slots are apart.
 ranked_from_neighbours : (xs : List Allocation)
     → ((k : ℕ) (d : Allocation) → suc k < length xs → IsNotBefore (grant_of (get_or xs k d)) (grant_of (get_or xs (suc k) d)))
@@ -89,7 +84,7 @@ ranked_from_neighbours (x ∷ y ∷ rest) near apart =
     omega arith) in
     let first : Precedes (grant_of x) (grant_of y) = strict (near 0 x (omega arith)) in (
       All-cons (Precedes (grant_of x)) (grant_of y) (map grant_of rest) first
-          (λ k d l. precedes_through (grant_of x) (grant_of y) (get_or (map grant_of rest) k d) first (later.0 k d l)),
+          (λ k d l. onward (grant_of x) (grant_of y) (get_or (map grant_of rest) k d) first (later.0 k d l)),
       later,
     )
   where

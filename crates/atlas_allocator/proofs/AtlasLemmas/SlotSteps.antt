@@ -1,5 +1,5 @@
 -- Steps of a walk that stops at each leaf.
-use Rattle.std.proofs.Common.{◌≡◌, ◌+◌, ◌<◌, ◌≤◌, ◌∙◌, ℕ, zero, suc, Bool, true, false, cond, List, [], ◌∷◌, get_or, drop, length, refl, ap}
+use Rattle.std.proofs.Common.{◌≡◌, ◌+◌, ◌<◌, ◌≤◌, ◌∙◌, ℕ, zero, suc, Bool, true, cond, List, [], ◌∷◌, get_or, drop, length, refl, ap}
 use Rattle.std.proofs.Common.{sym, arith}
 use Rattle.std.proofs.lemmas.List.{at_drop_more, get_or_default}
 use Rattle.atlas_store.specs.Slots.{node_of, nodes}
@@ -10,7 +10,7 @@ use Rattle.atlas_store.specs.declared.slots.NodeKind.{NodeKind}
 use Rattle.atlas_store.specs.declared.slots.Slot.{Slot}
 use denote.Enum.Bare.{sameb}
 use Rattle.atlas_store.specs.declared.slots.NodeKind.TheVariants as kind
-use Rattle.atlas_store.proofs.WalkLemmas.WalkSteps.{free-next, not_alloc}
+use Rattle.atlas_store.proofs.WalkLemmas.WalkSteps.{free-next}
 
 -- A kind that the test of the code finds.
 told_free : (k : NodeKind) (b : Bool) → b ≡ sameb the_type k kind.Free → b ≡ true → k ≡ kind.Free
@@ -40,23 +40,9 @@ module _ (xs : List Slot) (i : ℕ) (d e : Slot) (low : i < length xs) (b : Bool
       (allocated_from (i + 1) (nodes (drop (i + 1) xs))))
       (ap (λ (s : Slot). s.kind) (get_or_default xs i e d low) ∙ told_alloc _ b test is)
 
-module _ (xs : List Slot) (i : ℕ) (d : Slot) (b : Bool) (low : i < length xs) where
-  pub live-pass : b ≡ sameb the_type (get_or xs i d).kind kind.Alloc → b ≡ false
-      → allocated_from i (nodes (drop i xs)) ≡ allocated_from (i + 1) (nodes (drop (i + 1) xs))
-  live-pass test is =
-      at_drop_more (λ ys. allocated_from i (nodes ys)) xs i d low
-      ∙ ap (λ t. cond t (allocation_at i (node_of (get_or xs i d)) ∷ allocated_from (i + 1) (nodes (drop (i + 1) xs)))
-      (allocated_from (i + 1) (nodes (drop (i + 1) xs)))) (not_alloc _ b test is)
-
 -- Past all slots.
 pub free-past_all : (xs : List Slot) (i : ℕ) → length xs ≤ i → free_areas (nodes (drop i xs)) ≡ []
 free-past_all [] zero h = refl
 free-past_all [] (suc i) h = refl
 free-past_all (x ∷ xs) zero h = absurd (omega (arith, h))
 free-past_all (x ∷ xs) (suc i) h = free-past_all xs i (omega (arith, h))
-
-pub live-past_all : (k : ℕ) (xs : List Slot) (i : ℕ) → length xs ≤ i → allocated_from k (nodes (drop i xs)) ≡ []
-live-past_all k [] zero h = refl
-live-past_all k [] (suc i) h = refl
-live-past_all k (x ∷ xs) zero h = absurd (omega (arith, h))
-live-past_all k (x ∷ xs) (suc i) h = live-past_all k xs i (omega (arith, h))

@@ -1,14 +1,14 @@
 -- Rectangles and sizes whose coordinates are whole numbers from 0 on: what can be measured, and what rounding leaves.
-use Rattle.std.proofs.Common.{◌≡◌, ℕ, ◌-◌, ◌<◌, ◌≤◌, ℤ, pos, negsuc, ◌-ℤ◌, ◌≤ℤ◌, ◌<ℤ◌, FitsSigned, w32, refl, ap, sym, subst, arith}
+use Rattle.std.proofs.Common.{◌≡◌, ℕ, ◌-◌, ◌<◌, ◌≤◌, ℤ, pos, negsuc, ◌-ℤ◌, ◌≤ℤ◌, ◌<ℤ◌, FitsSigned, w32, ap, sym, subst, arith}
 use Rattle.std.proofs.lemmas.Int.{ints}
 use Rattle.atlas_model.specs.declared.geometry.Size.{Size}
 use Rattle.atlas_model.specs.declared.geometry.Rectangle.{Rectangle}
-use Rattle.atlas_model.specs.Boxes.{Box, Sides, box_sides, Fits, IsPositive}
+use Rattle.atlas_model.specs.Boxes.{Sides, box_sides, Fits, IsPositive}
 use Rattle.atlas_model.specs.Choice.{Options, AreValid, rounded}
-use Rattle.atlas_model.specs.Pixels.{natural, box_of, rectangle_of, sides_of, size_of, IsMeasurable}
+use Rattle.atlas_model.specs.Pixels.{natural, box_of, sides_of, size_of, IsMeasurable}
+use Rattle.atlas_model.proofs.ChoiceLemmas.RoundedSides.{rounded_positive}
 use Rattle.atlas_search.specs.Rectangles.{FitsInto, IsUnsigned}
 use Rattle.atlas_search.specs.Requests.{CanBeRounded}
-use Rattle.atlas_search.proofs.SearchLemmas.Picks.{up-le}
 
 -- Rectangles with no corner below 0.
 
@@ -25,17 +25,11 @@ pub unsigned-fits : (s : Size) (r : Rectangle) → IsUnsigned r → IsPositive (
     → Fits (sides_of s) (box_sides (box_of r)) → FitsInto s r
 unsigned-fits s r u positive fits = grind (arith, side_fits)
 
-pub unsigned_of : (r : Rectangle) (b : Box) → r ≡ rectangle_of b → IsUnsigned r
-unsigned_of r b e = subst IsUnsigned (sym e) refl
-
 -- A grant.
-
-pub rounded-positive : (o : Options) (s : Sides) → AreValid o → IsPositive s → IsPositive (rounded o s)
-rounded-positive o s valid positive = grind (arith, up-le)
 
 pub sides_of-size : (size : Size) (r : Sides) → size ≡ size_of r → sides_of size ≡ r
 sides_of-size size r e = ap sides_of e
 
 pub size-positive : (o : Options) (s : Sides) (size : Size) → AreValid o
     → CanBeRounded o s × (size ≡ size_of (rounded o s)) → IsPositive (sides_of size)
-size-positive o s size valid h = subst IsPositive (sym (sides_of-size size (rounded o s) h.1)) (rounded-positive o s valid h.0.positive)
+size-positive o s size valid h = subst IsPositive (sym (sides_of-size size (rounded o s) h.1)) (rounded_positive o s valid h.0.positive)

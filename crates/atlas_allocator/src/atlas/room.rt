@@ -35,7 +35,7 @@ fn lost_in(free: &Rectangle, size: Size) -> u64
     area_of(free)
 }
 
-// The same of all free slots together.
+// The area of all free slots that these sides don't fit, together.
 fn lost_sum(slots: &[Slot], size: Size) -> u64
     requires shown { All IsShownArea (free_areas (nodes slots.now)) }
     requires fits { lost_area (sides_of size) (free_areas (nodes slots.now)) < 2 ^ 64 }
@@ -80,7 +80,7 @@ fn larger_of(held: Rectangle, free: Rectangle) -> Rectangle
     free
 }
 
-// The same, or the second where there is no first.
+// That one of two free rectangles which precedes the other, or the second where there is no first.
 fn larger(best: Option<Rectangle>, free: Rectangle) -> Rectangle
     requires best { IfSome best IsShownArea }
     requires free { IsShownArea free }

@@ -1,7 +1,6 @@
 -- One page of a list becomes another, or one comes last: what that makes of the sizes, and of what each page keeps.
 use Rattle.std.proofs.Common.{◌≡◌, ◌+◌, ◌<◌, ◌++◌, ◌∷◌, [], ℕ, zero, suc, List, Option, None, Some, Ok, IfSome, length, get_or}
-use Rattle.std.specs.Prelude.{find}
-use Rattle.std.proofs.Common.{◌==◌, option_map, slice_get, slice_set, refl, sym, ap, ◌∙◌, subst, inl, inr, arith, length-append, IsSome}
+use Rattle.std.proofs.Common.{slice_get, slice_set, refl, sym, ap, ◌∙◌, subst, inl, inr, arith, length-append, IsSome}
 use Rattle.std.proofs.lemmas.Bool.Decides.{eqb_tells}
 use Rattle.std.proofs.lemmas.List.{length-map, length-set, map-set}
 use Rattle.std.proofs.lemmas.Option.{slice_get-get_or, slice_get-map, slice_get_cases, slice_get_within}
@@ -13,18 +12,18 @@ use Rattle.guillotiere.specs.Boxes.{Fits, Sides}
 use Rattle.guillotiere.specs.Callers.{AddsBox, HasFrame, HasSameBoxes, IsAnswer, KeepsFrame, LeavesNoBox}
 use Rattle.guillotiere.specs.Choice.{rounded, Options}
 use Rattle.guillotiere.specs.Pages.{rectangle_on, AddsBoxOn, HasRoomFor, HasRoomOn, HasSameRectangles, KeepsPages, LeavesNoBoxOn}
-use Rattle.guillotiere.specs.Pages.{NoneHasRoomBelow}
+use Rattle.guillotiere.specs.Pages.{page_sizes, size_of_page, NoneHasRoomBelow}
 use Rattle.guillotiere.specs.Pixels.{box_of, options_of, sides_of, size_of}
 use Rattle.guillotiere.specs.Replies.{IsExact}
 use Rattle.guillotiere.specs.Changes.{only}
 use Rattle.guillotiere.specs.States.{after_freeing, IsLive, IsSound, live_in, started, State}
 use Rattle.guillotiere.specs.Stored.{AtlasValue, state_of}
-use Rattle.guillotiere.proofs.Callers.{page_adds, page_goes, page_is, page_keeps, page_leaves, page_lives, page_stays}
+use Rattle.guillotiere.proofs.Callers.{page_adds, page_goes, page_is, page_keeps, page_leaves, page_lives, page_stays, same_boxes}
 use Rattle.guillotiere.proofs.ListLemmas.CallerLemmas.{slice_get-set_here, slice_get-set_other}
 use Rattle.atlas_cache.specs.declared.options.CacheOptions.{CacheOptions}
 use Rattle.atlas_cache.specs.Asking.{AreUsable}
 use Rattle.atlas_cache.specs.Placing.{FreesOn}
-use Rattle.atlas_cache.specs.Rooms.{ArePagesOf, HasRoomOnlyAmong, IsPageOf, IsRounded, KeepsRooms, page_sizes, rooms_of, size_of_page}
+use Rattle.atlas_cache.specs.Rooms.{ArePagesOf, HasRoomOnlyAmong, IsPageOf, IsRounded, KeepsRooms, rooms_of}
 
 -- A page of a cache that stays sound, keeps its options and grows no further than it may is one still.
 pub page_grows : (o : CacheOptions) (a b : AtlasValue) (n : Sides) → IsSound (state_of b)
@@ -68,10 +67,6 @@ pub size_read : (pages : List AtlasValue) (page : ℕ) (s : AtlasValue) (size : 
     → s ≡ get_or pages page s → size ≡ size_of_page s → slice_get (page_sizes pages) page ≡ Some size
 size_read pages page s size within is has =
     size_at pages page s (slice_get-get_or pages page s within ∙ ap Some (sym is)) ∙ ap Some (sym has)
-
--- Where the same is live, each id has the box that it had.
-same_boxes : (s t : State) → live_in t ≡ live_in s → HasSameBoxes s t
-same_boxes s t live id = ap (λ gs. option_map (λ g. g.box) (find (λ g. g.id == id) gs)) live
 
 -- The page of a size, by its number.
 pub page_at : (pages : List AtlasValue) (page : ℕ) (size : Size) → slice_get (page_sizes pages) page ≡ Some size
@@ -197,13 +192,6 @@ on_page pages page id r is_r = elim (slice_get_cases pages page).1 [
   | inl one ↦ (one.0, one.2, one.1)
   | inr past ↦ let none = rw past.1 at is_r in cc
 ]
-
--- A page comes last: the others stay.
-pub others_stay : (pages : List AtlasValue) (b : AtlasValue) → KeepsPages pages (pages ++ b ∷ []) (length pages)
-others_stay [] b zero other = absurd (other refl)
-others_stay [] b (suc k) other = refl
-others_stay (p ∷ pages) b zero other = refl
-others_stay (p ∷ pages) b (suc k) other = others_stay pages b k (λ same. other (omega (arith, same)))
 
 -- There are as many pages as sizes.
 pub as_many : (old new : List AtlasValue) → page_sizes new ≡ page_sizes old → length new ≡ length old

@@ -23,9 +23,6 @@ use Rattle.atlas_cache.proofs.RoomLemmas.PageReserves.{as_long, was_there}
 abbrev pub no_size : Size
 no_size = record { width = pos 0; height = pos 0 }
 
-pub no_size_has_none : (s : AtlasValue) → HasRoomFor no_size s → ⊥
-no_size_has_none s room = let some = room.positive in omega (arith, some.0)
-
 -- A size has none where a smaller one has none.
 pub larger_has_none : (refused asked : Size) (s : AtlasValue) → IsPositive (sides_of refused)
     → Fits (sides_of refused) (sides_of asked) → (HasRoomFor refused s → ⊥) → HasRoomFor asked s → ⊥

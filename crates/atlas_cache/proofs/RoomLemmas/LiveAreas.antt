@@ -26,9 +26,9 @@ use Rattle.guillotiere.proofs.ListLemmas.ListCounts.{count_by-cons}
 use Rattle.guillotiere.proofs.StepLemmas.StepEffects.{freeings_remove_one, grants_lie_inside, growths_keep_boxes}
 use Rattle.guillotiere.proofs.TreeLemmas.TreeBasics.{one_if}
 use Rattle.guillotiere.proofs.TreeLemmas.BoxLists.{areas_of_boxes}
+use Rattle.guillotiere.proofs.ListLemmas.CountSums.{sum_by-map}
 use Rattle.atlas_cache.specs.Repacking.{free_by_page}
 use Rattle.atlas_cache.specs.Rooms.{has_area, open_area}
-use Rattle.atlas_cache.proofs.UsableLemmas.{sum-mapped}
 
 abbrev pub grant_area : Grant → ℕ
 grant_area g = area g.box
@@ -42,7 +42,7 @@ pub areas-whole : (s : State) → IsSound s → live_sum s + sum_by area (free_i
 areas-whole s sound =
     let all = areas_of_boxes s.size s.tree sound.well_formed in
     let both = sum_by-append area (map (λ (g : Grant). g.box) (live_in s)) (free_in s) in
-    let mapped = sum-mapped area (λ (g : Grant). g.box) (live_in s) in
+    let mapped = sum_by-map area (λ (g : Grant). g.box) (live_in s) in
     omega (arith, all, both, mapped)
 
 -- And so it is a number of 64 bits, however much is granted.

@@ -9,12 +9,13 @@ use Rattle.std.proofs.Math.Nat.{suc-mul}
 use Rattle.std.proofs.lemmas.Option.{get_or_from_slice_get, slice_get_within}
 use Rattle.guillotiere.specs.declared.Size.{Size}
 use Rattle.guillotiere.specs.Boxes.{Fits, IsPositive, Sides}
+use Rattle.guillotiere.specs.Pages.{page_sizes, size_of_page}
 use Rattle.guillotiere.specs.Pixels.{natural, options_of, sides_of, size_of}
 use Rattle.guillotiere.specs.States.{started, State}
 use Rattle.guillotiere.specs.Stored.{AtlasValue, state_of}
 use Rattle.atlas_cache.specs.declared.options.CacheOptions.{CacheOptions}
 use Rattle.atlas_cache.specs.Asking.{AreUsable}
-use Rattle.atlas_cache.specs.Rooms.{both_sides, grown_sides, growth_left, grows_in_width, page_sizes, size_of_page, AreAllLargest}
+use Rattle.atlas_cache.specs.Rooms.{both_sides, grown_sides, growth_left, grows_in_width, AreAllLargest}
 use Rattle.atlas_cache.specs.Rooms.{KeepsRooms, RoomsState}
 use Rattle.atlas_cache.proofs.RoomLemmas.KeptPages.{page_at}
 

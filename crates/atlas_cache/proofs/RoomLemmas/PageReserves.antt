@@ -1,22 +1,21 @@
 -- What is in reserve on the pages of a cache.
 use Rattle.std.proofs.Common.{◌≡◌, ◌+◌, ◌<◌, ◌≤◌, ◌∙◌, ◌∷◌, ◌++◌, [], ℕ, List, Option, None, Some, length, map, get_or, slice_get}
 use Rattle.std.proofs.Common.{slice_set}
-use Rattle.std.proofs.Common.{option_map, refl, sym, ap, subst, inl, inr, arith, IfOk, IfSome, Result, Ok, Err}
+use Rattle.std.proofs.Common.{option_map, refl, sym, ap, subst, inl, inr, arith, IfSome}
 use Rattle.std.specs.Option.{option_and_then}
 use Rattle.std.proofs.lemmas.Bool.Decides.{eqb_tells}
 use Rattle.std.proofs.lemmas.List.{length-map}
 use Rattle.std.proofs.lemmas.Option.{slice_get-get_or, slice_get-map, slice_get_cases}
 use Rattle.std.proofs.Math.Seq.{map-set_same}
 use Rattle.guillotiere.specs.declared.Allocation.{Allocation}
-use Rattle.guillotiere.specs.declared.AtlasError.{AtlasError}
 use Rattle.guillotiere.specs.declared.AtlasError.TheVariants.{Slots}
 use Rattle.guillotiere.specs.declared.Size.{Size}
 use Rattle.guillotiere.specs.Boxes.{Fits, Sides}
 use Rattle.guillotiere.specs.Callers.{rectangle_in}
 use Rattle.guillotiere.specs.Choice.{rounded}
-use Rattle.guillotiere.specs.Pages.{HasSameRectangles, KeepsPages, NoneHasRoomBelow}
+use Rattle.guillotiere.specs.Pages.{page_sizes, size_of_page, HasSameRectangles, KeepsPages, NoneHasRoomBelow}
 use Rattle.guillotiere.specs.Pixels.{options_of, sides_of, size_of}
-use Rattle.guillotiere.specs.Replies.{allocate_reply, grant_of}
+use Rattle.guillotiere.specs.Replies.{grant_of}
 use Rattle.guillotiere.specs.Reserves.{HasReserve, UsesAtMost}
 use Rattle.guillotiere.specs.States.{started, used_in, IsSound, State}
 use Rattle.guillotiere.specs.Steps.{Step}
@@ -26,10 +25,11 @@ use Rattle.guillotiere.specs.Stored.{AtlasValue, state_of}
 use Rattle.guillotiere.proofs.ChoiceLemmas.RoundedSides.{rounded_positive}
 use Rattle.guillotiere.proofs.TreeLemmas.TreeCounts.{grow_most, place_most}
 use Rattle.guillotiere.proofs.ListLemmas.CallerLemmas.{slice_get-set_here, slice_get-set_other}
+use Rattle.guillotiere.proofs.Callers.{last_there}
 use Rattle.atlas_cache.specs.declared.options.CacheOptions.{CacheOptions}
 use Rattle.atlas_cache.specs.Placing.{GrantsOn, GrowsOn, IsFirstShort, IsGrowthShort, StartsOn}
 use Rattle.atlas_cache.specs.Reserving.{AllowSlots, HaveSlots, IsShortFor, IsShortOfSlots, UseAtMost}
-use Rattle.atlas_cache.specs.Rooms.{page_sizes, rooms_of, size_of_page, IsFirstToGrow, KeepsRooms}
+use Rattle.atlas_cache.specs.Rooms.{rooms_of, IsFirstToGrow, KeepsRooms}
 
 -- Where nothing changes, no slot is used.
 pub none_used : (n : ℕ) (pages : List AtlasValue) → UseAtMost n pages pages
@@ -76,14 +76,6 @@ pub none_short : (n k : ℕ) (pages : List AtlasValue) → n ≤ k → AllowSlot
 none_short n k pages most allow short =
     let may = allow short.0 short.1 short.2 in
     omega (arith, most, may, short.3)
-
--- Where a request is granted, the step says what.
-pub granted_by : (s t : State) (r : Sides) (result : Result (Option Allocation) AtlasError)
-    → Step s (Allocate r) (allocate_reply result) t
-    → IfOk result (λ granted. IfSome granted (λ a. Step s (Allocate r) (Allocated (grant_of a)) t))
-granted_by s t r (Ok (Some a)) step = step
-granted_by s t r (Ok None) step = tt
-granted_by s t r (Err error) step = tt
 
 -- A request that is refused for want of slots lacks 4 of them.
 pub request_needs : (s t : State) (r : Sides) → IsSound s → Step s (Allocate r) (Refused Slots) t → s.limit < used_in s + 4
@@ -200,16 +192,11 @@ sizes_by_state : (pages : List AtlasValue) → page_sizes pages ≡ map (λ (s :
 sizes_by_state [] = refl
 sizes_by_state (p ∷ pages) = ap (λ sizes. size_of_page p ∷ sizes) (sizes_by_state pages)
 
--- A page that begins comes last.
-last_is : (pages : List AtlasValue) (b : AtlasValue) → slice_get (pages ++ b ∷ []) (length pages) ≡ Some b
-last_is [] b = refl
-last_is (p ∷ pages) b = last_is pages b
-
 pub starts_last : (o : CacheOptions) (pages : List AtlasValue) (b : AtlasValue)
     → state_of b ≡ started (sides_of o.page) (options_of o.atlas) 16777216
     → StartsOn o (pages ++ b ∷ []) (length pages)
 starts_last o pages b state s at =
-    let same : b ≡ s = let both = sym (last_is pages b) ∙ at in cc in
+    let same : b ≡ s = let both = sym (last_there pages b) ∙ at in cc in
     subst (λ (u : AtlasValue). state_of u ≡ started (sides_of o.page) (options_of o.atlas) 16777216) same state
 
 -- Each page stands for what it stood for.

@@ -5,7 +5,7 @@ use Rattle.std.proofs.Common.{slice_get, slice_set, refl, sym, ap, ◌∙◌, su
 use Rattle.std.specs.List.{count_by, find}
 use Rattle.std.proofs.lemmas.Bool.{eq-eqb}
 use Rattle.std.proofs.lemmas.List.{append-nil}
-use Rattle.std.proofs.lemmas.List.Elements.{All-append, All-cons, All-contains, All-head, All-map, All-nil, All-tail, All-weaker}
+use Rattle.std.proofs.lemmas.List.Elements.{All-append, All-contains, All-head, All-map, All-nil, All-tail, All-weaker}
 use Rattle.std.proofs.lemmas.List.Sorted.{IsPermutation-sym}
 use Rattle.std.proofs.lemmas.Option.{same_Some, slice_get-get_or}
 use Rattle.guillotiere.specs.declared.Allocation.{Allocation}
@@ -18,7 +18,7 @@ use Rattle.guillotiere.specs.Callers.{rectangle_in, KeepsFrame}
 use Rattle.guillotiere.specs.Changes.{fresh}
 use Rattle.guillotiere.specs.Pixels.{box_of, options_of, rectangle_of, sides_of, size_of}
 use Rattle.guillotiere.specs.Rearranging.{rearrangement_of, transfer_of, AreExactChanges, IsExactChange}
-use Rattle.guillotiere.specs.Refits.{Refits, Transfer}
+use Rattle.guillotiere.specs.Refits.{Refits}
 use Rattle.guillotiere.specs.Refits.Refitted.{IsRefitOf}
 use Rattle.guillotiere.specs.Replies.{grant_of, IsExact}
 use Rattle.guillotiere.specs.States.{State, after_refit, live_in, started, IsSound}
@@ -33,6 +33,7 @@ use Rattle.guillotiere.proofs.StepLemmas.SoundSteps.{fresh_normal, fresh_well_fo
 use Rattle.atlas_cache.specs.declared.options.CacheOptions.{CacheOptions}
 use Rattle.atlas_cache.specs.Repacking.{rectangle_among, AreOfOwnIds, NamesPage, PlacesInOrder, RepacksPage, TellsMoves}
 use Rattle.atlas_cache.specs.Rooms.{rooms_of, KeepsRooms}
+use Rattle.atlas_allocator.proofs.AtlasLemmas.RearrangedAtlas.{changes_of}
 
 abbrev HasExact : Allocation → Type 0
 HasExact a = IsExact a.rectangle
@@ -85,14 +86,6 @@ olds (c ∷ cs) fs = ap (λ gs. grant_of c.old ∷ gs) (olds cs fs)
 news : (cs : List Change) → map (λ t. t.new) (map transfer_of cs) ≡ map grant_of (map (λ c. c.new) cs)
 news [] = refl
 news (c ∷ cs) = ap (λ gs. grant_of c.new ∷ gs) (news cs)
-
--- What holds of each transfer of a list, of each of its changes.
-changes_of : (P : Transfer → Type 0) (changes : List Change) → All P (map transfer_of changes)
-    → All (λ c. P (transfer_of c)) changes
-changes_of P [] all = All-nil (λ c. P (transfer_of c))
-changes_of P (c ∷ rest) all =
-    All-cons (λ k. P (transfer_of k)) c rest (All-head P (transfer_of c) (map transfer_of rest) all)
-    (changes_of P rest (All-tail P (transfer_of c) (map transfer_of rest) all))
 
 -- The rectangles of what is live in a sound state, each named once, can be placed anew.
 module _ (s : State) (sound : IsSound s) (order : List Allocation) (names : (id : ℕ) → rectangle_in s id ≡ rectangle_among order id)
@@ -189,9 +182,6 @@ module _ (pages : List AtlasValue) (page : ℕ) (a b : AtlasValue) (is : a ≡ g
       is_start ∙ ap (λ (n : Size). started (sides_of n) (options_of o.atlas) 16777216) is_size
       ∙ ap (λ p. started (state_of a).size p 16777216) (sym here.options)
       ∙ ap (λ (n : ℕ). started (state_of a).size (state_of a).options n) (sym here.limit)
-
-  pub sound_there : (o : CacheOptions) → KeepsRooms (rooms_of o pages) → IsSound (state_of a)
-  sound_there o kept = (kept.each page a had).sound
 
   pub named_there : (order : List Allocation) → NamesPage pages page order → (id : ℕ)
       → rectangle_in (state_of a) id ≡ rectangle_among order id

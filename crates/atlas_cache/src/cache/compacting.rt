@@ -2,12 +2,12 @@
 ghost use Rattle.std.specs.Prelude.{◌≡◌, ◌+◌, ◌-◌, ◌<◌, ◌≤◌, length, Err, IfErr, IfOk, IsSome, OnErr};
 ghost use Rattle.std.specs.Prelude.{vec_capacity, vec_len};
 ghost use Rattle.guillotiere.specs.declared.Size.{Size};
-ghost use Rattle.guillotiere.specs.Pages.{NoneHasRoomBelow};
+ghost use Rattle.guillotiere.specs.Pages.{page_sizes, NoneHasRoomBelow};
 ghost use Rattle.atlas_cache.specs.Caches.{entries_of, place_for, AreBordered, HoldsEntries};
 ghost use Rattle.atlas_cache.specs.Clearing.{TellsChanges};
 ghost use Rattle.atlas_cache.specs.Compacting.{Compacts, MovesSome, Visits};
 ghost use Rattle.atlas_cache.specs.Reserving.{IsShortOfSlots};
-ghost use Rattle.atlas_cache.specs.Rooms.{page_sizes, IsRefusal};
+ghost use Rattle.atlas_cache.specs.Rooms.{IsRefusal};
 ghost use Rattle.atlas_entries.specs.Entries.{entry_at, lying};
 ghost use Rattle.atlas_entries.specs.declared.error.CacheError.TheVariants.{Slots};
 

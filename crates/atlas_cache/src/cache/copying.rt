@@ -1,6 +1,7 @@
 //! A second cache like a first one.
 ghost use Rattle.std.specs.Prelude.{◌≡◌, IfOk};
-ghost use Rattle.atlas_cache.specs.Rooms.{page_sizes, stored_on};
+ghost use Rattle.guillotiere.specs.Pages.{page_sizes};
+ghost use Rattle.atlas_cache.specs.Rooms.{stored_on};
 
 use crate::cache::TextureCache;
 use std::alloc::{AllocError, Allocator};

@@ -2,7 +2,7 @@
 ghost use Rattle.std.specs.Prelude.{◌≡◌, ◌≢◌, ◌+◌, ◌-◌, ◌<◌, ◌≤◌, max, [], ◌∷◌, ◌++◌, length, false, true, IfErr, IfNone, IfOk, IfSome};
 ghost use Rattle.std.specs.Prelude.{IsNone, None, Ok};
 ghost use Rattle.std.specs.Prelude.{Err, OnErr, Some};
-ghost use Rattle.guillotiere.specs.Pages.{HasSameRectangles, LeavesNoBoxOn, NoneHasRoomBelow};
+ghost use Rattle.guillotiere.specs.Pages.{page_sizes, HasSameRectangles, LeavesNoBoxOn, NoneHasRoomBelow};
 ghost use Rattle.atlas_cache.specs.Caches.{entries_of, entry_for, shown, HoldsEntries, IsBordered, IsFound, IsOldestLying};
 ghost use Rattle.atlas_cache.specs.Changes.{GetsPlace};
 ghost use Rattle.atlas_entries.specs.Entries.{entry_at, is_blank, lying, number_of, without_number, IsNextNumber};
@@ -10,7 +10,7 @@ ghost use Rattle.atlas_entries.specs.Limits.{IsWithoutNumber};
 ghost use Rattle.atlas_cache.specs.Placing.{FreesOn, IsFirstShort};
 ghost use Rattle.atlas_cache.specs.Refusals.{IsRefusedNew};
 ghost use Rattle.atlas_cache.specs.Reserving.{HaveSlots, IsShortOfSlots, UseAtMost};
-ghost use Rattle.atlas_cache.specs.Rooms.{page_sizes, HasRoomOnlyAmong, IsRounded};
+ghost use Rattle.atlas_cache.specs.Rooms.{HasRoomOnlyAmong, IsRounded};
 ghost use Rattle.atlas_entries.specs.declared.error.CacheError.TheVariants.{Memory, Slots};
 
 use crate::options::CacheOptions;

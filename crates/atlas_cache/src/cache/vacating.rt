@@ -5,14 +5,13 @@ ghost use Rattle.std.specs.Prelude.{vec_capacity, vec_len, IsOk, IsOkUnless, OnE
 ghost use Rattle.guillotiere.specs.Boxes.{IsPositive};
 ghost use Rattle.atlas_cache.specs.declared.cache.vacating.Vacated.TheVariants.{Crowded, Room, Unmarked};
 ghost use Rattle.std.specs.List.{AllByRecursion};
-ghost use Rattle.guillotiere.specs.Pages.{rectangle_on};
+ghost use Rattle.guillotiere.specs.Pages.{page_sizes, rectangle_on};
 ghost use Rattle.guillotiere.specs.Pixels.{box_of, natural, sides_of};
 ghost use Rattle.guillotiere.specs.States.{IsSound};
 ghost use Rattle.guillotiere.specs.Stored.{state_of, AtlasValue};
 ghost use Rattle.atlas_cache.specs.Caches.{entries_of, AreBordered, FramesFall, HasNoPageFor, HoldsEntries, IsFull};
 ghost use Rattle.atlas_cache.specs.Changes.{IsCleared, IsExhausted, LetsGo, MakesRoom};
 ghost use Rattle.atlas_cache.specs.Reserving.{room_in, HasReserves};
-ghost use Rattle.atlas_cache.specs.Rooms.{page_sizes};
 ghost use Rattle.atlas_cache.specs.Vacating.{idle_on, ids_on, inside_count, lies_in, state_with};
 ghost use Rattle.atlas_cache.specs.Vacating.{AreAllShown, HasNoRoomWithout, IsRoomWithout, IsVacancy};
 ghost use Rattle.atlas_entries.specs.declared.entries.Entry.{Entry};
@@ -107,7 +106,7 @@ fn first_vacancy<K: Copy + Eq + Hash, S: BuildHasher, A: Allocator + Copy>(
     None
 }
 
-// The same, with nothing shown before. An error is a refusal of memory for marks of slots.
+// What `first_vacancy` finds, where nothing was shown before. An error is a refusal of memory for marks of slots.
 fn find_vacancy<K: Copy + Eq + Hash, S: BuildHasher, A: Allocator + Copy>(
     rooms: &Rooms<A>,
     entries: &Entries<K, S, A>,

@@ -33,7 +33,7 @@ impl<A: Allocator + Copy> Rooms<A> {
         Ok(())
     }
 
-    /// The same on each page, which has marks of its own.
+    /// Nothing is shown on any page, each of which has marks of its own.
     pub(crate) fn show_none_on_all(
         &self,
         marks: &mut Vec<Vec<bool, A>, A>,

@@ -3,6 +3,7 @@ ghost use Rattle.std.specs.Prelude.{◌≡◌, ◌+◌, ◌-◌, ◌*◌, ◌<�
 ghost use Rattle.std.specs.Prelude.{IsOkUnless, IsTrue, Ok, OnErr, OnOk, None, Some, []};
 ghost use Rattle.std.specs.List.{list_any};
 ghost use Rattle.guillotiere.specs.Boxes.{area, box_sides, Box};
+ghost use Rattle.guillotiere.specs.Pages.{page_sizes};
 ghost use Rattle.guillotiere.specs.Pixels.{box_of, sides_of};
 ghost use Rattle.guillotiere.specs.Rearranging.{rearrangement_of, AreExactChanges};
 ghost use Rattle.guillotiere.specs.Refits.Refitted.{HasExactRectangle, IsRefitOf};
@@ -14,7 +15,7 @@ ghost use Rattle.guillotiere.specs.Steps.AtlasCall.{Allocate};
 ghost use Rattle.guillotiere.specs.Stored.{state_of};
 ghost use Rattle.atlas_cache.specs.Repacking.{free_by_page, live_by_page, IsLargestFirst, LosesSome, NamesPage, PlacesAnew};
 ghost use Rattle.atlas_cache.specs.Repacking.{RepacksPage};
-ghost use Rattle.atlas_cache.specs.Rooms.{has_area, page_sizes, IsRefusal};
+ghost use Rattle.atlas_cache.specs.Rooms.{has_area, IsRefusal};
 ghost use Rattle.atlas_entries.specs.declared.error.CacheError.TheVariants.{Slots};
 
 use crate::rooms::asking::changed;

@@ -6,7 +6,8 @@ ghost use Rattle.guillotiere.specs.Pixels.{box_of, natural, options_of};
 ghost use Rattle.guillotiere.specs.States.{free_in};
 ghost use Rattle.guillotiere.specs.Stored.{state_of};
 ghost use Rattle.atlas_cache.specs.Asking.{bordered};
-ghost use Rattle.atlas_cache.specs.Usable.{unusable, unusable_by_page};
+ghost use Rattle.atlas_allocator.specs.Room.{lost};
+ghost use Rattle.atlas_cache.specs.Usable.{unusable_by_page};
 
 use crate::rooms::Rooms;
 use atlas_entries::error::CacheError;
@@ -40,7 +41,7 @@ pub fn pixels_of(size: Size) -> u64
 
 // The area of a free rectangle, if one of these sides doesn't fit it.
 fn unusable_of(free: &Rectangle, width: u64, height: u64) -> u64
-    ensures { result ≡ unusable (record { width = width; height = height }) (box_of free.now) }
+    ensures { result ≡ lost (record { width = width; height = height }) (box_of free.now) }
 {
     let wide = extent(free.min.x, free.max.x);
     let high = extent(free.min.y, free.max.y);
@@ -50,10 +51,10 @@ fn unusable_of(free: &Rectangle, width: u64, height: u64) -> u64
     wide * high
 }
 
-// The same of several together.
+// The area of several free rectangles that one of these sides doesn't fit, together.
 fn unusable_sum(free: &[Rectangle], width: u64, height: u64) -> u64
     requires { sum_by (λ r. area (box_of r)) free.now < 18446744073709551616 }
-    ensures { result ≡ sum_by (λ r. unusable (record { width = width; height = height }) (box_of r)) free.now }
+    ensures { result ≡ sum_by (λ r. lost (record { width = width; height = height }) (box_of r)) free.now }
 {
     let mut sum = 0;
     for at in 0..free.len() {
@@ -62,14 +63,14 @@ fn unusable_sum(free: &[Rectangle], width: u64, height: u64) -> u64
     sum
 }
 
-// The same of a page.
+// The area of a page's free rectangles that one of these sides doesn't fit.
 fn unusable_on<A: Allocator + Copy>(
     page: &AtlasAllocator<A>,
     width: u64,
     height: u64,
 ) -> Result<u64, CacheError>
-    ensures area { IfOk result (λ lost. lost
-        ≡ sum_by (unusable (record { width = width; height = height })) (free_in (state_of page.now))) }
+    ensures area { IfOk result (λ area. area
+        ≡ sum_by (lost (record { width = width; height = height })) (free_in (state_of page.now))) }
     ensures unless { IsOkUnless result CacheError.Memory }
 {
     let _all = page.free_area();

@@ -12,21 +12,22 @@ use Rattle.atlas_model.specs.declared.options.AllocatorOptions.{AllocatorOptions
 use Rattle.atlas_model.specs.Boxes.{Axis, IsPositive, Sides, other, side}
 use Rattle.atlas_model.specs.Boxes.Axis.{Horizontal, Vertical}
 use Rattle.atlas_model.specs.Pixels.{rectangle_of, sides_of, size_of}
-use Rattle.atlas_search.specs.declared.link.Link.{Link}
 use Rattle.atlas_search.specs.Numbers.{no_slot}
 use Rattle.atlas_store.specs.declared.slots.Node.{Node}
 use Rattle.atlas_store.specs.declared.slots.NodeKind.TheVariants as kind
 use Rattle.atlas_store.specs.Slots.{axis_of, node_at, use_count}
 use Rattle.atlas_store.specs.Slots.Growing.{top_along}
-use Rattle.atlas_store.specs.Slots.Numbered.{Numbered, erase, first_slot, tally, End}
+use Rattle.atlas_store.specs.Slots.Numbered.{Numbered, erase, first_slot, tally}
 use Rattle.atlas_model.specs.Trees.{total}
-use Rattle.atlas_store.proofs.SlotLemmas.Frames.{same-self}
-use Rattle.atlas_store.proofs.SlotLemmas.ReadTrees.{HasMember, first-axis}
+use Rattle.atlas_model.proofs.TreeLemmas.TreeBasics.{side_positive}
+use Rattle.atlas_store.proofs.SlotLemmas.ReadTrees.{first-axis}
 use Rattle.atlas_store.specs.Slots.Standing.{Sequence, member_box}
 use Rattle.atlas_store.proofs.SlotLemmas.CalmTrees.{calm-Stands}
 use Rattle.atlas_store.proofs.SlotLemmas.JoinWrites.{none-unused}
 use Rattle.atlas_store.proofs.SlotLemmas.SlotBoxes.{slot-exact}
 use Rattle.atlas_store.proofs.StoreLemmas.Sizes.{size_is}
+use Rattle.atlas_store.proofs.WalkLemmas.StoredAtlas.{nonempty-total}
+use Rattle.atlas_store.proofs.StoreLemmas.RestoredStores.{link_same}
 use Rattle.std.proofs.lemmas.Bool.{eq-eqb}
 
 -- The first members are noted, and ranks rise.
@@ -50,20 +51,6 @@ whole_box_is a size e = ap whole_rectangle e ∙ by_axis a (sides_of size)
     by_axis Horizontal s = whole_parts s (0 + s.width) (0 + s.height) (omega arith) (omega arith)
     by_axis Vertical s = whole_parts s (0 + s.width) (0 + s.height) (omega arith) (omega arith)
 
-side_some : (a : Axis) (s : Sides) → IsPositive s → 0 < side a s
-side_some Horizontal s h = h.0
-side_some Vertical s h = h.1
-
-abbrev link_of : ℕ → Link
-link_of n = record { number = n }
-
-link_is : (a b : Link) → a.number ≡ b.number → a ≡ b
-link_is a b e = ap link_of e
-
-nonempty_total : (n : Numbered) → 0 < total (erase n) → HasMember n
-nonempty_total End l = absurd (omega arith)
-nonempty_total n l = omega (arith, same-self)
-
 module _ (ns : List Node) (size : Size) (options : AllocatorOptions) (begin : ℕ) (n : Numbered)
     (t : IsTreeOfNodes ns (sides_of size) options begin n) (positive : IsPositive (sides_of size)) (short : length ns < no_slot)
   where
@@ -77,15 +64,15 @@ module _ (ns : List Node) (size : Size) (options : AllocatorOptions) (begin : �
     no_tally = t.stands.numbered no_slot ∙ ap use_count none
 
     wide : 0 < side (other t.axis) (sides_of size)
-    wide = side_some (other t.axis) (sides_of size) positive
+    wide = side_positive (other t.axis) (sides_of size) positive
 
     long : 0 < total (erase n)
-    long = omega (arith, t.along, side_some t.axis (sides_of size) positive)
+    long = omega (arith, t.along, side_positive t.axis (sides_of size) positive)
 
     -- The first member runs along the tree's axis.
     top_axis : axis_of (node_at ns begin).axis ≡ t.axis
     top_axis = ap (λ v. axis_of (node_at ns v).axis) (sym t.first)
-        ∙ first-axis ns s no_slot 0 n t.stands.standing (nonempty_total n long)
+        ∙ first-axis ns s no_slot 0 n t.stands.standing (nonempty-total n long)
 
     start : IsIn ns size begin s 0 (side t.axis (sides_of size)) no_slot 0 n
     start =
@@ -152,7 +139,7 @@ module _ (ns : List Node) (size : Size) (options : AllocatorOptions) (begin : �
           record {
             used = a.used;
             next = a.next;
-            parent = link_is _ _ a.parent;
+            parent = link_same _ _ a.parent;
             axis = a.axis;
             low = a.low;
             rank = after_rank p;

@@ -27,11 +27,11 @@ use Rattle.atlas_image.proofs.ImageLemmas.Reached.{IsLedTo, grown-Stands}
 use Rattle.atlas_model.specs.declared.geometry.Rectangle.{Rectangle}
 use Rattle.atlas_model.specs.declared.geometry.Size.{Size}
 use Rattle.atlas_model.specs.declared.options.AllocatorOptions.{AllocatorOptions}
-use Rattle.atlas_model.specs.Boxes.{Axis, IsPositive, Sides, other, side}
-use Rattle.atlas_model.specs.Boxes.Axis.{Horizontal, Vertical}
+use Rattle.atlas_model.specs.Boxes.{IsPositive, other, side}
 use Rattle.atlas_model.specs.Pixels.{natural, sides_of}
 use Rattle.atlas_model.specs.Trees as tree
 use Rattle.atlas_model.specs.Trees.{IsCut, Members, total}
+use Rattle.atlas_model.proofs.TreeLemmas.TreeBasics.{side_positive}
 use Rattle.atlas_search.specs.declared.cut.Orientation.{Orientation}
 use Rattle.atlas_search.specs.declared.cut.Orientation.TheVariants as orientation
 use Rattle.atlas_search.specs.declared.link.Link.{Link}
@@ -46,7 +46,9 @@ use Rattle.atlas_store.specs.Slots.Numbered.{Numbered, erase, numbers, tally}
 use Rattle.atlas_store.specs.Slots.Standing.{Sequence, Stands}
 use Rattle.atlas_store.proofs.SlotLemmas.Calm.{normal-from_calm}
 use Rattle.atlas_store.proofs.SlotLemmas.Frames.{used-inside}
+use Rattle.atlas_model.proofs.ListLemmas.Sums.{sums}
 use Rattle.atlas_store.proofs.SlotLemmas.ReadTrees.{tallies, tallies-numbers}
+use Rattle.atlas_store.proofs.SlotLemmas.PlannedLeaves.{axis_of-flipped}
 
 -- A number of a list is below its sum and 1.
 pub below-sum : (xs : List ℕ) (i : ℕ) → get_or xs i 0 < suc (sum xs)
@@ -72,17 +74,9 @@ whole_span : (size : Size) (o : Orientation) → IsWhole size o
 whole_span size orientation.Horizontal = record { begins = refl; ends = refl }
 whole_span size orientation.Vertical = record { begins = refl; ends = refl }
 
-axis_flipped : (o : Orientation) → axis_of (flipped o) ≡ other (axis_of o)
-axis_flipped orientation.Horizontal = refl
-axis_flipped orientation.Vertical = refl
-
 top_is : (p w : ℕ) (o : Orientation) (s : Span) → p ≡ no_slot → begin_of s ≡ 0 → end_of s - begin_of s ≡ w
     → sequence_in p o s ≡ top_along (axis_of o) w
 top_is p w o s e f g = rw (e, g, f) refl
-
-side_positive : (a : Axis) (s : Sides) → IsPositive s → 0 < side a s
-side_positive Horizontal s h = h.0
-side_positive Vertical s h = h.1
 
 module _ {A : Type 0} (ns : List Node) (o : Order A) (size : Size) (options : AllocatorOptions)
     (all : AreMembers ns o size options) (none : (node_at ns no_slot).kind ≡ kind.Unused) where
@@ -236,7 +230,7 @@ module _ {A : Type 0} (ns : List Node) (o : Order A) (size : Size) (options : Al
 
     width_is : end_of (span_in (flipped t.axis) t.area) ≡ side (other (axis_of t.axis)) (sides_of size)
     width_is = ap end_of across_whole ∙ (whole_span size (flipped t.axis)).ends
-        ∙ ap (λ a. side a (sides_of size)) (axis_flipped t.axis)
+        ∙ ap (λ a. side a (sides_of size)) (axis_of-flipped t.axis)
 
     sequence_whole : sequence_of t ≡ top_along (axis_of t.axis) (side (other (axis_of t.axis)) (sides_of size))
     sequence_whole = top_is t.parent.number (side (other (axis_of t.axis)) (sides_of size)) t.axis
@@ -289,6 +283,7 @@ members-all ns o size options f g =
 -- As many slots are used as the tree has members.
 used_tallies : (ns : List Node) (m : ℕ) (t : Numbered) → ((k : ℕ) → tally k t ≡ use_count (node_at ns k).kind)
     → used_below ns m ≡ tallies m t
+unfolding sums
 used_tallies ns zero t h = refl
 used_tallies ns (suc m) t h = omega (arith, h m, used_tallies ns m t h)
 

@@ -52,21 +52,6 @@ noting-none o n at never =
 
 module _ {A : Type 0} (old new : Order A) (n : Node) (at : Link) (used : IsUsed n) (alone : n.previous.number ≡ no_slot)
     (ranks : new.ranks.items ≡ old.ranks.items) where
-  pub noting-top : n.parent.number ≡ no_slot → new.top ≡ at → new.firsts.items ≡ old.firsts.items → IsNoting old new n at
-  noting-top e t f =
-      record {
-        noted = λ u p m. first_top new n.parent.number e ∙ t;
-        kept = λ i. elim (cases_eq i no_slot) [
-          | inl z ↦ inr (
-            record { used = used; parent = e ∙ sym z; previous = alone },
-            first_top new i z ∙ t,
-          )
-          | inr z ↦ inl (first_inside new i z ∙ ap (λ v. get_or v i no_first) f ∙ sym (first_inside old i z))
-        ];
-        long = ap (λ (v : List Link). length v) f;
-        ranks = ranks;
-      }
-
   pub noting-inside : n.parent.number ≢ no_slot → n.parent.number < length old.firsts.items → new.top ≡ old.top
       → new.firsts.items ≡ set old.firsts.items n.parent.number at → IsNoting old new n at
   noting-inside ne l t f =

@@ -20,6 +20,7 @@ use Rattle.atlas_store.specs.Slots.Numbered.{Numbered, erase, first_slot, tally,
 use Rattle.atlas_store.specs.Slots.Standing.{IsLinkedIn, Sequence, Standing, inside, member_box, spot}
 use Rattle.atlas_store.proofs.SlotLemmas.Frames.{same-ne, ne-from_same}
 use Rattle.atlas_store.proofs.SlotLemmas.MemberLinks.{begins-none}
+use Rattle.atlas_store.proofs.SlotLemmas.PlannedLeaves.{axis_of-flipped, box-inside}
 
 span_across : (o : Orientation) (a : Axis) (p e start width : ℕ) → axis_of o ≡ a
     → span_in (flipped o) (rectangle_of (box_at (spot a p start) (sized a e width)))
@@ -38,16 +39,9 @@ axis_one orientation.Vertical orientation.Vertical e = refl
 axis_one orientation.Horizontal orientation.Vertical e = cc
 axis_one orientation.Vertical orientation.Horizontal e = cc
 
-axis_flipped : (o : Orientation) → axis_of (flipped o) ≡ other (axis_of o)
-axis_flipped orientation.Horizontal = refl
-axis_flipped orientation.Vertical = refl
-
 other_twice : (a : Axis) → other (other a) ≡ a
 other_twice Horizontal = refl
 other_twice Vertical = refl
-
-box-inside : (s : Sequence) (i p e : ℕ) → member_box (inside s i p e) s.start s.width ≡ member_box s p e
-box-inside s i p e = grind arith
 
 -- The member b, before the one of slot i, ends where that begins.
 pub record IsPriorOf (b : Node) (i : ℕ) (n : Node) : Type 0 where
@@ -147,7 +141,7 @@ module _ (ns : List Node) (size : Size) (top : ℕ) where
       where
         nested_axis : axis_of (node_at ns n.parent.number).axis ≡ other t.axis
             → t.axis ≡ axis_of (flipped (node_at ns n.parent.number).axis)
-        nested_axis q = sym (other_twice t.axis) ∙ ap other (sym q) ∙ sym (axis_flipped (node_at ns n.parent.number).axis)
+        nested_axis q = sym (other_twice t.axis) ∙ ap other (sym q) ∙ sym (axis_of-flipped (node_at ns n.parent.number).axis)
 
         prior : b ≢ no_slot → IsPriorOf (node_at ns b) i n
         prior z = record {

@@ -3,7 +3,7 @@ use Rattle.std.proofs.Common.{ℕ, ◌+◌, ◌-◌, ◌<◌, ◌≡◌, refl, s
 use Rattle.atlas_image.specs.declared.members.Span.{Span}
 use Rattle.atlas_image.specs.Members.{span_in, IsAcross}
 use Rattle.atlas_model.specs.declared.geometry.Rectangle.{Rectangle}
-use Rattle.atlas_model.specs.Boxes.{Box, IsNonempty, box_sides, other, side}
+use Rattle.atlas_model.specs.Boxes.{Box, IsNonempty, box_sides, side}
 use Rattle.atlas_model.specs.Pixels.{box_of, natural, rectangle_of}
 use Rattle.atlas_search.specs.declared.cut.Orientation.{Orientation}
 use Rattle.atlas_search.specs.declared.cut.Orientation.TheVariants as orientation
@@ -12,6 +12,7 @@ use Rattle.atlas_store.specs.declared.slots.Node.{Node}
 use Rattle.atlas_store.specs.Slots.{axis_of}
 use Rattle.atlas_store.specs.Slots.Reading.{extent_of}
 use Rattle.atlas_store.specs.Slots.Standing.{Sequence, inside, member_box}
+use Rattle.atlas_store.proofs.SlotLemmas.PlannedLeaves.{axis_of-flipped}
 
 abbrev pub begin_of : Span → ℕ
 begin_of s = natural s.low
@@ -85,13 +86,9 @@ twice : (o : Orientation) → flipped (flipped o) ≡ o
 twice orientation.Horizontal = refl
 twice orientation.Vertical = refl
 
-flipped_axis : (o : Orientation) → axis_of (flipped o) ≡ other (axis_of o)
-flipped_axis orientation.Horizontal = refl
-flipped_axis orientation.Vertical = refl
-
 inside_is : (p i w : ℕ) (o : Orientation) (s t : Span) → end_of t - begin_of t ≡ w
     → sequence_in i (flipped o) t ≡ inside (sequence_in p o s) i (begin_of t) w
-inside_is p i w o s t e = rw (← e, flipped_axis o) refl
+inside_is p i w o s t e = rw (← e, axis_of-flipped o) refl
 
 -- A member of a container, of slot i, is in the sequence inside.
 pub inner-sequence : (n u : Node) (i : ℕ) (f : Rectangle) → IsAcross u f → f ≡ n.area → u.axis ≡ flipped n.axis

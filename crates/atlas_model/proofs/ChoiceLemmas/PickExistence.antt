@@ -330,3 +330,7 @@ no_room_by_test free o s none room = at_none free none room.box room.fitting.is_
           | inl same ↦ true≢false (sym parts.0 ∙ ap not (ap (fits (rounded o s)) same ∙ fit))
           | inr later ↦ at_none cs parts.1 b later fit
         ]
+
+-- What comes before a box comes before all that it comes before.
+pub first-then : (a b c : Box) → ComesFirst a b → ComesFirst b c → ComesFirst a c
+first-then a b c f g = grind arith

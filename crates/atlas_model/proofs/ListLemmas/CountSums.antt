@@ -1,5 +1,5 @@
 -- Two lists that count the same for each test add up to the same.
-use Rattle.std.proofs.Common.{◌≡◌, ℕ, zero, suc, ◌+◌, ◌≤◌, min, Bool, List, [], ◌∷◌, refl, sym, ◌∙◌, arith}
+use Rattle.std.proofs.Common.{◌≡◌, ℕ, zero, suc, ◌+◌, ◌≤◌, min, Bool, List, [], ◌∷◌, map, refl, sym, ◌∙◌, arith}
 use Rattle.std.proofs.lemmas.List.Sums.{sum_by-cons}
 use Rattle.std.specs.List.{count_by, sum_by}
 use Rattle.std.specs.Prelude.{nat_lt}
@@ -40,3 +40,8 @@ module _ {X : Type 0} (f : X → ℕ) where
   sum_by-counts xs ys same =
       let m = sum_by f xs + sum_by f ys in
       sym (layers-sum m xs (omega arith)) ∙ layers-same m xs ys same ∙ layers-sum m ys (omega arith)
+
+-- A sum over mapped elements.
+pub sum_by-map : {X Y : Type 0} (f : Y → ℕ) (g : X → Y) (xs : List X) → sum_by f (map g xs) ≡ sum_by (λ x. f (g x)) xs
+sum_by-map f g [] = refl
+sum_by-map f g (x ∷ xs) = omega (arith, sum_by-cons f (g x) (map g xs), sum_by-cons (λ x. f (g x)) x xs, sum_by-map f g xs)

@@ -20,16 +20,14 @@ use Rattle.atlas_model.specs.Simple.SimpleRuns.{held_after}
 use Rattle.atlas_model.proofs.TreeLemmas.BoxLists.{squares_in_one, boxes_in_place}
 use Rattle.atlas_model.proofs.SimpleLemmas.SimpleGrants.{one_if, squares_of_cut, kept_le, count-none, none-count, misplaced, well_placed}
 use Rattle.atlas_model.proofs.SimpleLemmas.SimpleGrants.{not_misplaced, kept-placed, grant-simple, grant-guarded, start-simple}
+use Rattle.atlas_model.proofs.TreeLemmas.TreeKept.{longer_positive}
+use Rattle.atlas_model.proofs.StepLemmas.ApartBoxes.{covered_within}
 
 -- A unit square lies inside a size, or no box within the size covers it.
 
-covered : (size : Sides) (x y : ℕ) (b : Box) → IsWithin size b → covers x y b ≡ true
-    → (x < size.width) × (y < size.height)
-covered size x y b within h = grind (arith, nat_tests)
-
 outside : (size : Sides) (x y : ℕ) → ((x < size.width) × (y < size.height) → ⊥) → (b : Box) → IsWithin size b
     → covers x y b ≡ false
-outside size x y out b within = grind (arith, covered)
+outside size x y out b within = grind (arith, covered_within)
 
 none-outside : (size : Sides) (x y : ℕ) → ((x < size.width) × (y < size.height) → ⊥) → (boxes : List Box)
     → All (λ b. IsWithin size b) boxes → count_by (covers x y) boxes ≡ 0
@@ -51,9 +49,6 @@ at-most-inside size x y n boxes within inside = by_tests (ltb x size.width) (ltb
 
 -- A growth.
 
-pub whole-positive : (s n : Sides) → IsPositive s → Fits s n → IsPositive n
-whole-positive s n positive fits = (omega (arith, positive, fits), omega (arith, positive, fits))
-
 pub whole-fits : (s n : Sides) → Fits s n → Fits s (box_sides (whole_box n))
 whole-fits s n fits = (omega (arith, fits), omega (arith, fits))
 
@@ -64,7 +59,7 @@ whole-nonempty n positive = (omega (arith, positive), omega (arith, positive))
 added-squares : (old : SimpleState) (n : Sides) → IsSimple old → Fits old.size n → (x y : ℕ)
     → one_if (covers x y (whole_box old.size)) + count_by (covers x y) (added_by old n) ≤ one_if (covers x y (whole_box n))
 added-squares old n simple fits x y =
-    grind (arith, squares_of_cut, whole-nonempty n, whole-positive, whole-fits, kept_le (is_kept old.options))
+    grind (arith, squares_of_cut, whole-nonempty n, longer_positive, whole-fits, kept_le (is_kept old.options))
 
 at-most-one : (b : Bool) → one_if b ≤ 1
 at-most-one true = omega arith
@@ -102,7 +97,7 @@ grow-boxes old new n simple fits grows =
     let bad = misplaced n in
     let wider : (b : Box) → P old.size b → P n b = λ b h. (h.0, (omega (arith, h.1, fits), omega (arith, h.1, fits))) in
     let kept = kept-placed old.options n (cut_axis (box_sides f) old.size) f old.size simple.valid
-    (whole-nonempty n (whole-positive old.size n simple.nonempty fits)) (omega arith, omega arith) (whole-fits old.size n fits) in
+    (whole-nonempty n (longer_positive old.size n simple.nonempty fits)) (omega arith, omega arith) (whole-fits old.size n fits) in
     let free = All-weaker (P old.size) (P n) wider old.free simple.boxes in
     let before : count_by bad (added_by old n ++ old.free) ≡ 0 =
     count-none bad (added_by old n ++ old.free)
@@ -115,7 +110,7 @@ grow-boxes old new n simple fits grows =
 pub grow-simple : (old new : SimpleState) (n : Sides) → IsSimple old → Fits old.size n → SimplyGrows old n new
     → IsSimple new
 grow-simple old new n simple fits grows = record {
-  nonempty = subst IsPositive (sym grows.size) (whole-positive old.size n simple.nonempty fits);
+  nonempty = subst IsPositive (sym grows.size) (longer_positive old.size n simple.nonempty fits);
   valid = subst AreValid (sym grows.options) simple.valid;
   boxes = grow-boxes old new n simple fits grows;
   disjoint = λ x y.

@@ -249,7 +249,7 @@ came s s' r (Refused Slots) h met = inr (inr (h.0, refl, h.1, h.2, h.3))
 came s s' r (Refused Memory) h met = absurd (true≢false met)
 came s s' r reply h met = absurd h
 
-has_room : (s : State) (r : Sides) (b : Box) → Takes s r b → HasRoom (free_in s) s.options r
+pub has_room : (s : State) (r : Sides) (b : Box) → Takes s r b → HasRoom (free_in s) s.options r
 has_room s r b h = record { positive = h.positive; box = b; fitting = h.pick.best.candidate.fitting }
 
 abbrev Freed : State → (id : ℕ) → AtlasReply → State → Type 0

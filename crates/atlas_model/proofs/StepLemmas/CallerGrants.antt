@@ -4,11 +4,11 @@ use Rattle.std.proofs.Common.{IfSome, option_map, inl, inr}
 use Rattle.std.proofs.lemmas.Int.{ints}
 use Rattle.atlas_model.specs.Boxes.{Sides, Box, box_sides, whole_box, IsNonempty, IsWithin}
 use Rattle.atlas_model.specs.Callers.{rectangle_in, LiesWithin, IsGranted, IsAnswer, IdleHasRoom, KeepsFrame}
-use Rattle.atlas_model.specs.Choice.{rounded, HasRoom}
+use Rattle.atlas_model.specs.Choice.{rounded}
 use Rattle.atlas_model.specs.Pixels.{natural, sides_of, box_of, rectangle_of, IsMeasurable}
 use Rattle.atlas_model.specs.Replies.{live_box, IsExact, allocate_reply}
-use Rattle.atlas_model.specs.States.{State, free_in, IsSound, after_freeing}
-use Rattle.atlas_model.specs.Steps.{Step, Takes}
+use Rattle.atlas_model.specs.States.{State, IsSound, after_freeing}
+use Rattle.atlas_model.specs.Steps.{Step}
 use Rattle.atlas_model.specs.Steps.AtlasCall.{Allocate}
 use Rattle.atlas_model.specs.Steps.AtlasReply.{Allocated, NoRoom}
 use Rattle.atlas_model.specs.Trees.{grant}
@@ -25,6 +25,7 @@ use Rattle.atlas_model.proofs.StepLemmas.StepEffects.{grants_lie_inside}
 use Rattle.atlas_model.proofs.StepLemmas.SoundSteps.{steps_keep}
 use Rattle.atlas_model.proofs.TreeLemmas.TreeCounts.{release_nodes}
 use Rattle.atlas_model.proofs.TreeLemmas.TreeIds.{Contains-first}
+use Rattle.atlas_model.proofs.StepLemmas.Alike.{has_room}
 
 -- The rectangle of a box that isn't empty and lies within.
 pub rectangle_within : (s : Sides) (b : Box) → IsNonempty b → IsWithin s b → LiesWithin s (rectangle_of b)
@@ -38,7 +39,7 @@ rectangle_within s b some within = record {
 }
 
 -- A side that isn't empty is a whole number.
-whole_side : (n : ℤ) → 0 < natural n → n ≡ pos (natural n)
+pub whole_side : (n : ℤ) → 0 < natural n → n ≡ pos (natural n)
 whole_side (pos n) some = refl
 whole_side (negsuc n) some = absurd (omega (arith, some))
 
@@ -89,10 +90,6 @@ idle_has_room s r sound idle positive fits = record {
   };
 }
 
--- Where a request takes a free box, it has room.
-takes_room : (s : State) (r : Sides) (f : Box) → Takes s r f → HasRoom (free_in s) s.options r
-takes_room s r f takes = record { positive = takes.positive; box = f; fitting = takes.pick.best.candidate.fitting }
-
 pub no_room_answer : (old new : State) (request : Size) → Step old (Allocate (sides_of request)) NoRoom new
     → IsAnswer old request (Ok None)
 no_room_answer old new request step = step.0
@@ -102,8 +99,8 @@ pub refused_answer : (old new : State) (request : Size) (result : Result (Option
     → result ≡ Err error → Step old (Allocate (sides_of request)) (allocate_reply result) new
     → IsAnswer old request result
 refused_answer old new request (Ok o) error is step = cc
-refused_answer old new request (Err Memory) error is step = (inl refl, takes_room old (sides_of request) step.0 step.1)
-refused_answer old new request (Err Slots) error is step = (inr refl, takes_room old (sides_of request) step.0 step.1)
+refused_answer old new request (Err Memory) error is step = (inl refl, has_room old (sides_of request) step.0 step.1)
+refused_answer old new request (Err Slots) error is step = (inr refl, has_room old (sides_of request) step.0 step.1)
 refused_answer old new request (Err NotLive) error is step = absurd step
 
 -- A freeing keeps the frame, and the number of kept slots.

@@ -25,6 +25,7 @@ use Rattle.atlas_model.proofs.StepLemmas.RefitOrders.{refit_order}
 use Rattle.atlas_model.proofs.ChoiceLemmas.RoundedSides.{up_least, up_multiple}
 use Rattle.atlas_model.proofs.TreeLemmas.TreeBasics.{one_if, free_among, free_among-seq}
 use Rattle.atlas_model.proofs.TreeLemmas.TreeIds.{Contains-first, Contains-later, Contains-none, Contains-cons_cases}
+use Rattle.atlas_model.proofs.ListLemmas.Sums.{sums, sums-add}
 
 -- Rounding
 
@@ -40,15 +41,6 @@ pub starts_are_sound : StartsAreSound
 starts_are_sound size o limit pos valid some = grind arith
 
 -- An id of an unused slot.
-
-sums : (ℕ → ℕ) → ℕ → ℕ
-sums f zero = 0
-sums f (suc n) = f n + sums f n
-
-sums-add : (f g : ℕ → ℕ) (n : ℕ) → sums (λ i. f i + g i) n ≡ sums f n + sums g n
-unfolding sums
-sums-add f g zero = refl
-sums-add f g (suc n) = omega (arith, sums-add f g n)
 
 sums-same : (f g : ℕ → ℕ) (n : ℕ) → ((i : ℕ) → i < n → f i ≡ g i) → sums f n ≡ sums g n
 unfolding sums

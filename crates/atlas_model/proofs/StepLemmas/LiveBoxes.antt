@@ -28,7 +28,7 @@ abbrev pub is_for : ℕ → Grant → Bool
 is_for id g = g.id == id
 
 -- An id is live where it is counted.
-counted_live : (s : State) (id : ℕ) → 1 ≤ live_count id s → IsLive s id
+pub counted_live : (s : State) (id : ℕ) → 1 ≤ live_count id s → IsLive s id
 counted_live s id some =
     at_split (split_at (λ k. k == id) (ids s.tree.members) (omega (arith, some, count_live (λ k. k == id) s.size s.tree)))
   where
@@ -36,7 +36,7 @@ counted_live s id some =
     at_split at = subst (λ l. Contains l id) (sym at.is) (subst (Contains (at.before ++ at.here ∷ at.after)) (eqb-true at.here id at.passes)
         (Contains-append_right at.before (at.here ∷ at.after) at.here (Contains-first at.here at.after)))
 
-live_counted : (s : State) (id : ℕ) → IsLive s id → 1 ≤ live_count id s
+pub live_counted : (s : State) (id : ℕ) → IsLive s id → 1 ≤ live_count id s
 live_counted s id at =
     omega (
       arith,

@@ -45,7 +45,7 @@ all_differ (g ∷ gs) once = (first, all_differ gs rest)
 either : (g h : Grant) → Differ g h → Precedes g h ⊎ Precedes h g
 either g h unlike = grind arith
 
-onward : (g h k : Grant) → Precedes g h → Precedes h k → Precedes g k
+pub onward : (g h k : Grant) → Precedes g h → Precedes h k → Precedes g k
 onward g h k (inl a) (inl b) = inl (omega arith)
 onward g h k (inl a) (inr b) = inl (omega (arith, b.0))
 onward g h k (inr a) (inl b) = inl (omega (arith, a.0))

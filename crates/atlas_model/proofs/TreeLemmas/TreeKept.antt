@@ -215,7 +215,7 @@ kept-widened old new axis m pos le k = by_test (ltb u n) refl
         let same : u ≡ n = omega arith in
         record { sum = k.sum; cut = subst (λ j. IsCut j m) same k.cut; normal = k.normal }
 
-longer_positive : (old new : Sides) → IsPositive old → Fits old new → IsPositive new
+pub longer_positive : (old new : Sides) → IsPositive old → Fits old new → IsPositive new
 longer_positive old new p f = (omega (arith, p.0, f.0), omega (arith, p.1, f.1))
 
 kept-grown : (old new : Sides) (axis : Axis) (m : Members) → IsPositive old → Fits old new → total m ≡ side axis old

@@ -104,9 +104,6 @@ normal-placed f r id axis o across (Seq e inner rest) n = (
 one_more : (a c n k h : ℕ) → h ≡ 1 + n → a ≡ c + n * k → k + a ≡ c + h * k
 one_more a c n k h p q = rw p (omega arith)
 
-none_more : (a c n k h : ℕ) → h ≡ 0 + n → a ≡ c + n * k → a ≡ c + h * k
-none_more a c n k h p q = let same : h ≡ n = omega arith in rw same q
-
 regroup : (a b c : ℕ) → a + (b + c) ≡ a + b + c
 regroup a b c = omega arith
 
@@ -211,7 +208,7 @@ live-placed p f r id pos fit axis o across (Seq e inner rest) =
 nonempty_from : (f : Box) (r : Sides) → IsPositive r → Fits r (box_sides f) → IsNonempty f
 nonempty_from f r pos fit = (omega (arith, pos.0, fit.0), omega (arith, pos.1, fit.1))
 
-covers_corner : (f : Box) → IsNonempty f → covers f.min.x f.min.y f ≡ true
+pub covers_corner : (f : Box) → IsNonempty f → covers f.min.x f.min.y f ≡ true
 covers_corner f h = grind arith
 
 same_covers : (f b : Box) → IsNonempty f → one_if (same_box b f) ≤ one_if (covers f.min.x f.min.y b)

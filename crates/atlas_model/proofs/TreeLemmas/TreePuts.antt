@@ -1,5 +1,5 @@
 -- How a box is cut, and what then stands in place of a free member.
-use Rattle.std.proofs.Common.{◌≡◌, ℕ, ◌+◌, ◌-◌, ◌*◌, ◌<◌, ◌≤◌, true, false, ltb, List, ◌∷◌, refl, ap, ◌∙◌, arith}
+use Rattle.std.proofs.Common.{◌≡◌, ℕ, ◌-◌, ◌*◌, ◌<◌, ◌≤◌, true, false, ltb, List, ◌∷◌, refl, arith}
 use Rattle.std.proofs.lemmas.Bool.{eqb-true, eqb-false}
 use Rattle.atlas_model.specs.Boxes.{Axis, Position, Sides, other, side, sized, moved, box_at, box_sides, Fits}
 use Rattle.atlas_model.specs.Boxes.{IsPositive}
@@ -8,7 +8,7 @@ use Rattle.atlas_model.specs.Changes.{put}
 use Rattle.atlas_model.specs.Cuts.{Cut, cut, cap}
 use Rattle.atlas_model.specs.Cuts.Cut.{Whole, Strip, Corner}
 use Rattle.atlas_model.specs.Trees.{Grant, grant, Members, ids, IsCut, begins_free, IsNormal}
-use Rattle.atlas_model.proofs.TreeLemmas.TreeBasics.{moved-twice, live_among}
+use Rattle.atlas_model.proofs.TreeLemmas.TreeBasics.{live_among}
 
 -- What a cut says of the sides.
 abbrev pub CutSays : Cut → (whole r : Sides) → Type 0
@@ -55,9 +55,6 @@ same_grant : (id : ℕ) (o : Position) (w h w' h' : ℕ) (rest : List Grant) →
     → ((grant id (box_at o (record { width = w; height = h }))) ∷ rest)
     ≡ ((grant id (box_at o (record { width = w'; height = h' }))) ∷ rest)
 same_grant id o w h w' h' rest p q = λ i. (grant id (box_at o (record { width = p i; height = q i }))) ∷ rest
-
-beyond : (axis : Axis) (o : Position) (p e : ℕ) → p ≤ e → moved axis (moved axis o p) (e - p) ≡ moved axis o e
-beyond axis o p e h = let k : p + (e - p) ≡ e = omega arith in moved-twice axis o p (e - p) ∙ ap (moved axis o) k
 
 pub live-put : (c : Cut) (axis : Axis) (o : Position) (e across id : ℕ) (r : Sides) (rest : Members)
     → CutSays c (sized axis e across) r → side axis r ≤ e

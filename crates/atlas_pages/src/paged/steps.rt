@@ -4,7 +4,7 @@ ghost use Rattle.std.specs.Prelude.{IsTrue};
 ghost use Rattle.guillotiere.specs.Boxes.{IsPositive};
 ghost use Rattle.guillotiere.specs.Callers.{HasFrame, IsAnswer, IsGranted, KeepsAll, KeepsFrame};
 ghost use Rattle.guillotiere.specs.Choice.{AreValid, HasNoRoom};
-ghost use Rattle.guillotiere.specs.Pages.{rectangle_on, AddsBoxOn, IsAnswerOn, LeavesNoBoxOn, NoneHasRoomBelow};
+ghost use Rattle.guillotiere.specs.Pages.{page_sizes, rectangle_on, AddsBoxOn, IsAnswerOn, LeavesNoBoxOn, NoneHasRoomBelow};
 ghost use Rattle.guillotiere.specs.Pixels.{options_of, sides_of};
 ghost use Rattle.guillotiere.specs.Replies.{allocate_reply, done_reply, grant_of};
 ghost use Rattle.guillotiere.specs.States.{free_in, started};
@@ -12,7 +12,7 @@ ghost use Rattle.guillotiere.specs.Steps.{Step};
 ghost use Rattle.guillotiere.specs.Steps.AtlasCall.{Allocate, Clear, Deallocate, Grow};
 ghost use Rattle.guillotiere.specs.Steps.AtlasReply.{Allocated, Done, Refused};
 ghost use Rattle.guillotiere.specs.Stored.{state_of};
-ghost use Rattle.atlas_pages.specs.Paged.{page_sizes, AreIdleAmong, GrowsOn, IsFirstAnswer, IsFirstOn, IsGrowthFault, IsLastBusy};
+ghost use Rattle.atlas_pages.specs.Paged.{AreIdleAmong, GrowsOn, IsFirstAnswer, IsFirstOn, IsGrowthFault, IsLastBusy};
 ghost use Rattle.atlas_pages.specs.Paged.{IsOptionsFault};
 ghost use Rattle.atlas_pages.specs.Paged.{IsGrowthFaultIn, IsIdle, IsNewFault, JoinsPage, StepsAt};
 

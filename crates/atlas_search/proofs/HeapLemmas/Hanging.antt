@@ -3,15 +3,16 @@ use Rattle.std.proofs.Common.{◌≡◌, ◌≢◌, ℕ, ◌+◌, ◌<◌, ◌�
 use Rattle.std.proofs.lemmas.Bool.{cases_eq}
 use Rattle.atlas_model.specs.Choice.{ComesFirst}
 use Rattle.atlas_model.specs.Pixels.{box_of}
+use Rattle.atlas_model.proofs.ChoiceLemmas.PickExistence.{first-then}
 use Rattle.atlas_search.specs.Numbers.{occurs, same, no_slot}
 use Rattle.atlas_search.specs.Rectangles.{IsSolid}
 use Rattle.atlas_search.proofs.Occurrences.{same-self}
-use Rattle.atlas_search.specs.HeapCalls.{AreApart, IsHungLeft, IsLinked, IsMelded, KeepsAreas, KeepsKinds}
+use Rattle.atlas_search.specs.HeapCalls.{AreSeparate, IsHungLeft, IsRelinked, IsMelded, KeepsAreas, KeepsKinds}
 use Rattle.atlas_search.specs.Heaps.{Heap, IsAbove, IsHeap, members}
 use Rattle.atlas_search.specs.Heaps.Heap.{None, Top}
 use Rattle.atlas_search.specs.Items.{Item, item_at, item_box, linked}
 use Rattle.atlas_search.proofs.HeapLemmas.Frames.{above-frame, heap-frame, heap-moved}
-use Rattle.atlas_search.proofs.SearchLemmas.Heaps.{first-then, heap-inside, none-of, occurs-top, top-first}
+use Rattle.atlas_search.proofs.SearchLemmas.Heaps.{heap-inside, none-of, occurs-top, top-first}
 use Rattle.atlas_search.proofs.HeapLemmas.Places.{IsPlaced, IsWith, place-of}
 
 -- The same for a heap of which only the top is known.
@@ -139,7 +140,7 @@ pub record IsHanging (es fs : List Item) (up top : ℕ) (g h : Heap) (above rest
   pub areas : KeepsKinds es fs
   pub others : (k : ℕ) → occurs k (members g) + occurs k (members h) ≡ 0 → item_at fs k ≡ item_at es k
 
-pub hanging-begins : (es : List Item) (up top under rest : ℕ) (g h : Heap) → AreApart es up top g under rest h
+pub hanging-begins : (es : List Item) (up top under rest : ℕ) (g h : Heap) → AreSeparate es up top g under rest h
     → IsAbove es top h → IsHanging es es up top g h top rest
 hanging-begins es up top under rest g h a first = record {
   whole = g;
@@ -287,7 +288,7 @@ module _ (es fs gs : List Item) (up top : ℕ) (g h : Heap) (above rest : ℕ) (
 
   -- What is on the right goes left: it hangs below the entry as before.
   pub swap-hangs : (item_at fs above).right ≢ no_slot
-      → IsLinked fs gs above (item_at fs above).up (item_at fs above).right (item_at fs above).left
+      → IsRelinked fs gs above (item_at fs above).up (item_at fs above).right (item_at fs above).left
       → IsHungLeft fs gs above (item_at fs above).right
   swap-hangs more is =
       let next = (item_at fs above).right in
@@ -319,15 +320,16 @@ module _ (es fs gs : List Item) (up top : ℕ) (g h : Heap) (above rest : ℕ) (
       let there = top-in fs above next p.right p.high more in
       subst IsSolid (sym (s.areas.areas next)) (exact next (omega (arith, there, p.counts next, s.has next)))
 
-pub other-in : (es : List Item) (up one under other : ℕ) (g h : Heap) → AreApart es up one g under other h → other < length es
+pub other-in : (es : List Item) (up one under other : ℕ) (g h : Heap) → AreSeparate es up one g under other h → other < length es
 other-in es up one under other g h a = heap-inside es under other h a.part other (top-in es under other h a.part a.more)
 
-pub other-solid : (es : List Item) (up one under other : ℕ) (g h : Heap) → AreApart es up one g under other h →
+pub other-solid : (es : List Item) (up one under other : ℕ) (g h : Heap) → AreSeparate es up one g under other h →
     IsSolid (item_at es other).area
 other-solid es up one under other g h a = a.exact other (omega (arith, top-in es under other h a.part a.more))
 
-pub one-in : (es : List Item) (up one under other : ℕ) (g h : Heap) → AreApart es up one g under other h → one < length es
+pub one-in : (es : List Item) (up one under other : ℕ) (g h : Heap) → AreSeparate es up one g under other h → one < length es
 one-in es up one under other g h a = heap-inside es up one g a.heap one (top-in es up one g a.heap a.some)
 
-pub one-solid : (es : List Item) (up one under other : ℕ) (g h : Heap) → AreApart es up one g under other h → IsSolid (item_at es one).area
+pub one-solid : (es : List Item) (up one under other : ℕ) (g h : Heap) → AreSeparate es up one g under other h
+    → IsSolid (item_at es one).area
 one-solid es up one under other g h a = a.exact one (omega (arith, top-in es up one g a.heap a.some))

@@ -8,8 +8,9 @@ use Rattle.atlas_search.specs.declared.cells.Cell.{Cell}
 use Rattle.atlas_model.specs.Boxes.{Sides, box_sides}
 use Rattle.atlas_model.specs.Choice.{ComesFirst}
 use Rattle.atlas_model.specs.Pixels.{box_of}
+use Rattle.atlas_model.proofs.ChoiceLemmas.PickExistence.{first-then}
 use Rattle.atlas_search.specs.Forks.{IsAlike, IsIn, IsRouted, IsSplit, Reroutes, high, is_cut_wide, low, low_by, middle}
-use Rattle.atlas_search.specs.HeapCalls.{AreHeapsOf, ArePartsBelow, HasLeft, IsLinked, IsMelded, IsPut, KeepsAreas, KeepsKinds}
+use Rattle.atlas_search.specs.HeapCalls.{AreHeapsOf, ArePartsBelow, HasLeft, IsRelinked, IsMelded, IsPut, KeepsAreas, KeepsKinds}
 use Rattle.atlas_search.specs.Heaps.{Heap, IsAbove, IsHeap, members}
 use Rattle.atlas_search.specs.Heaps.Heap.{None, Top}
 use Rattle.atlas_search.specs.Items.{Item, forked, item_at, item_box, item_sides, linked}
@@ -23,7 +24,7 @@ use Rattle.atlas_search.proofs.HeapLemmas.Melding.{linked-areas}
 use Rattle.atlas_search.proofs.HeapLemmas.Removing.{below-of}
 use Rattle.atlas_search.proofs.HeapLemmas.Sinking.{order-kept}
 use Rattle.atlas_search.proofs.SearchLemmas.Cells.{cut-high, cut-wide, high-within}
-use Rattle.atlas_search.proofs.SearchLemmas.Heaps.{first-then, heap-inside, none-of, occurs-top, top-of}
+use Rattle.atlas_search.proofs.SearchLemmas.Heaps.{heap-inside, none-of, occurs-top, top-of}
 use Rattle.atlas_search.proofs.SearchLemmas.Routes.{alike-routed, reroutes-kept, reroutes-same, reroutes-then, routed-frame, sides-same}
 
 -- ---- sizes of a half
@@ -313,7 +314,7 @@ module _ (es : List Item) (at z w : ℕ) (h q : Heap) (a : AreHeapsOf es at z w 
 
     -- It is alone, and no fork.
     module _ (fs : List Item) (up : ℕ) (lone : w ≡ no_slot) (isn : (item_at es z).is_fork ≡ false)
-        (is : IsLinked es fs z up (item_at es z).left (item_at es z).right) where
+        (is : IsRelinked es fs z up (item_at es z).left (item_at es z).right) where
       none : (k : ℕ) → occurs k (members q) ≡ 0
       none k = ap (λ (g : Heap). occurs k (members g)) (none-of es at w q a.short a.high lone)
 

@@ -4,17 +4,17 @@ use Rattle.std.proofs.lemmas.Bool.{cases_eq}
 use Rattle.std.proofs.lemmas.List.{get_or-set_same, get_or-set_other, length-set}
 use Rattle.std.proofs.Common.{inl, inr}
 use Rattle.atlas_model.specs.Choice.{ComesFirst}
+use Rattle.atlas_model.proofs.ChoiceLemmas.PickExistence.{first-then}
 use Rattle.atlas_search.specs.Numbers.{occurs}
 use Rattle.atlas_search.specs.Rectangles.{IsSolid}
-use Rattle.atlas_search.specs.HeapCalls.{AreApart, IsLinked, IsMelded, KeepsKinds}
+use Rattle.atlas_search.specs.HeapCalls.{AreSeparate, IsRelinked, IsMelded, KeepsKinds}
 use Rattle.atlas_search.specs.Heaps.{Heap, IsAbove, members}
 use Rattle.atlas_search.specs.Items.{Item, item_at, item_box, linked, no_item}
 use Rattle.atlas_search.proofs.HeapLemmas.Frames.{above-frame, heap-frame}
-use Rattle.atlas_search.proofs.SearchLemmas.Heaps.{first-then}
 use Rattle.atlas_search.proofs.HeapLemmas.Hanging.{areas-then, boxes-same, first-of, heap-reup, top-in}
 
 pub linked-by : (es fs : List Item) (at up left right : ℕ) → at < length es → fs ≡ set es at (linked (item_at es at) up left right)
-    → IsLinked es fs at up left right
+    → IsRelinked es fs at up left right
 linked-by es fs at up left right inside e = record {
   long = ap length e ∙ length-set es at (linked (item_at es at) up left right);
   here = ap (λ (xs : List Item). item_at xs at) e ∙ get_or-set_same es at (linked (item_at es at) up left right) no_item inside;
@@ -22,7 +22,7 @@ linked-by es fs at up left right inside e = record {
 }
 
 pub linked-as : (es fs : List Item) (at up left right up' left' right' : ℕ) → up ≡ up' → left ≡ left' → right ≡ right'
-    → IsLinked es fs at up left right → IsLinked es fs at up' left' right'
+    → IsRelinked es fs at up left right → IsRelinked es fs at up' left' right'
 linked-as es fs at up left right up' left' right' u l r is = record {
   long = is.long;
   here = is.here ∙ ap (λ n. linked (item_at es at) n left right) u ∙ ap (λ n. linked (item_at es at) up' n right) l
@@ -30,7 +30,7 @@ linked-as es fs at up left right up' left' right' u l r is = record {
   others = is.others;
 }
 
-pub linked-areas : (es fs : List Item) (at up left right : ℕ) → IsLinked es fs at up left right → KeepsKinds es fs
+pub linked-areas : (es fs : List Item) (at up left right : ℕ) → IsRelinked es fs at up left right → KeepsKinds es fs
 linked-areas es fs at up left right is = record {
   long = is.long;
   areas = λ k. elim (cases_eq k at) [
@@ -47,8 +47,8 @@ linked-areas es fs at up left right is = record {
   ];
 }
 
-pub apart-swap : (es : List Item) (up one under other : ℕ) (g h : Heap) → AreApart es up one g under other h
-    → AreApart es under other h up one g
+pub apart-swap : (es : List Item) (up one under other : ℕ) (g h : Heap) → AreSeparate es up one g under other h
+    → AreSeparate es under other h up one g
 apart-swap es up one under other g h a = record {
   short = a.short;
   heap = a.part;
@@ -67,13 +67,13 @@ melded-swap es fs up top g h m = record {
   others = λ k none. m.others k (omega (arith, none));
 }
 
-module _ (es fs : List Item) (up one under other up' : ℕ) (g h : Heap) (a : AreApart es up one g under other h)
-    (is : IsLinked es fs one up' (item_at es one).left (item_at es one).right) where
+module _ (es fs : List Item) (up one under other up' : ℕ) (g h : Heap) (a : AreSeparate es up one g under other h)
+    (is : IsRelinked es fs one up' (item_at es one).left (item_at es one).right) where
   there : 0 < occurs one (members g)
   there = top-in es up one g a.heap a.some
 
   -- The top of the first heap hangs elsewhere.
-  pub apart-raised : AreApart fs up' one g under other h
+  pub apart-raised : AreSeparate fs up' one g under other h
   apart-raised = record {
     short = omega (arith, a.short, is.long);
     heap = heap-reup es fs up up' one g a.short is.long a.some a.heap (λ k. omega (arith, a.once k)) is.here (λ k l ne. is.others k ne);

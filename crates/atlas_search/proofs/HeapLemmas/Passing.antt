@@ -4,7 +4,7 @@ use Rattle.std.proofs.lemmas.Bool.{true≢false}
 use Rattle.atlas_search.specs.declared.cells.Cell.{Cell}
 use Rattle.atlas_model.specs.Choice.{ComesFirst}
 use Rattle.atlas_search.specs.Forks.{IsIn, IsSplit, half, high, low}
-use Rattle.atlas_search.specs.HeapCalls.{CanSort, HasSorted, IsLinked, IsPut, KeepsAreas, KeepsKinds}
+use Rattle.atlas_search.specs.HeapCalls.{CanSort, HasSorted, IsRelinked, IsPut, KeepsAreas, KeepsKinds}
 use Rattle.atlas_search.specs.Heaps.{Heap, IsHeap, members}
 use Rattle.atlas_search.specs.Heaps.Heap.{None, Top}
 use Rattle.atlas_search.specs.Items.{Item, forked, item_at, item_box, item_sides, linked}
@@ -57,7 +57,7 @@ put-same es k up a b u l r fork = record {
 }
 
 -- A fork whose links are written stays one.
-pub put-linked : (es fs : List Item) (k up a b : ℕ) → IsLinked es fs k up a b → (item_at es k).is_fork ≡ true → IsPut es fs k up a b true
+pub put-linked : (es fs : List Item) (k up a b : ℕ) → IsRelinked es fs k up a b → (item_at es k).is_fork ≡ true → IsPut es fs k up a b true
 put-linked es fs k up a b is fork = record {
   long = is.long;
   here = is.here ∙ ap (forked (linked (item_at es k) up a b)) fork;
@@ -139,7 +139,7 @@ module _ (es : List Item) (c : Cell) (above at : ℕ) (h : Heap) (some : above �
         (ap (λ (t : Item). t.right) (sym low-kept))
         (ap (λ (t : Item). t.is_fork) low-kept ∙ fork))
 
-    hung-low : (hs : List Item) → KeepsAreas es fs → IsLinked fs hs above (item_at es above).up x (item_at es above).right
+    hung-low : (hs : List Item) → KeepsAreas es fs → IsRelinked fs hs above (item_at es above).up x (item_at es above).right
         → HasSorted es hs c (item_at es above).up above at h
     hung-low hs keeps is = passed-low hs keeps
         (put-linked fs hs above (item_at es above).up x (item_at es above).right is (ap (λ (t : Item). t.is_fork) low-kept ∙ fork))
@@ -182,7 +182,7 @@ module _ (es : List Item) (c : Cell) (above at : ℕ) (h : Heap) (some : above �
         (link ∙ ap (λ (t : Item). t.right) (sym high-kept))
         (ap (λ (t : Item). t.is_fork) high-kept ∙ fork))
 
-    hung-high : (hs : List Item) → KeepsAreas es fs → IsLinked fs hs above (item_at es above).up (item_at es above).left x
+    hung-high : (hs : List Item) → KeepsAreas es fs → IsRelinked fs hs above (item_at es above).up (item_at es above).left x
         → HasSorted es hs c (item_at es above).up above at h
     hung-high hs keeps is = passed-high hs keeps
         (put-linked fs hs above (item_at es above).up (item_at es above).left x is (ap (λ (t : Item). t.is_fork) high-kept ∙ fork))
@@ -193,13 +193,13 @@ module _ (es : List Item) (c : Cell) (above at : ℕ) (h : Heap) (some : above �
   stayed-half false = stayed-high
 
   pub hung-in-low : (b : Bool) → b ≡ true → (fs : List Item) (x : ℕ) → HasSorted es fs (half b c) above x at (part b)
-      → (hs : List Item) → KeepsAreas es fs → IsLinked fs hs above (item_at es above).up x (item_at es above).right
+      → (hs : List Item) → KeepsAreas es fs → IsRelinked fs hs above (item_at es above).up x (item_at es above).right
       → HasSorted es hs c (item_at es above).up above at h
   hung-in-low true is = hung-low
   hung-in-low false is = absurd (true≢false (sym is))
 
   pub hung-in-high : (b : Bool) → b ≡ false → (fs : List Item) (x : ℕ) → HasSorted es fs (half b c) above x at (part b)
-      → (hs : List Item) → KeepsAreas es fs → IsLinked fs hs above (item_at es above).up (item_at es above).left x
+      → (hs : List Item) → KeepsAreas es fs → IsRelinked fs hs above (item_at es above).up (item_at es above).left x
       → HasSorted es hs c (item_at es above).up above at h
   hung-in-high false is = hung-high
   hung-in-high true is = absurd (true≢false is)

@@ -2,6 +2,7 @@
 use Rattle.std.proofs.Common.{◌≡◌, ℕ, ◌+◌, ◌<◌, ◌≤◌, List, length, ap, sym, ◌∙◌, subst, inl, inr, arith}
 use Rattle.std.proofs.lemmas.Bool.{cases_eq}
 use Rattle.atlas_model.specs.Choice.{ComesFirst}
+use Rattle.atlas_model.proofs.ChoiceLemmas.PickExistence.{first-then}
 use Rattle.atlas_search.specs.Numbers.{occurs, same}
 use Rattle.atlas_search.proofs.Occurrences.{same-self, same-ne}
 use Rattle.atlas_search.specs.Forks.{Reroutes}
@@ -9,7 +10,7 @@ use Rattle.atlas_search.specs.Heaps.{Heap, IsAbove, IsHeap, members}
 use Rattle.atlas_search.specs.Heaps.Heap.{None, Top}
 use Rattle.atlas_search.specs.Items.{Item, item_at, item_box}
 use Rattle.atlas_search.proofs.HeapLemmas.Frames.{above-frame, heap-frame, parts}
-use Rattle.atlas_search.proofs.SearchLemmas.Heaps.{first-then, occurs-top}
+use Rattle.atlas_search.proofs.SearchLemmas.Heaps.{occurs-top}
 use Rattle.atlas_search.proofs.SearchLemmas.Routes.{reroutes-same, reroutes-top}
 
 -- Entry x hangs where it did, and these two heaps hang below it; entries that `others` counts keep all.

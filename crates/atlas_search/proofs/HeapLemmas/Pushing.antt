@@ -8,7 +8,7 @@ use Rattle.atlas_search.specs.Forks.{IsAlike, IsRouted, Reroutes, cell_of}
 use Rattle.atlas_search.specs.Numbers.{occurs, same, no_slot}
 use Rattle.atlas_search.specs.Rectangles.{IsSolid}
 use Rattle.atlas_search.proofs.Occurrences.{same-self, same-ne}
-use Rattle.atlas_search.specs.HeapCalls.{CanPush, CanSort, HasPushed, HasSorted, IsLinked, IsPut, KeepsAreas}
+use Rattle.atlas_search.specs.HeapCalls.{CanPush, CanSort, HasPushed, HasSorted, IsRelinked, IsPut, KeepsAreas}
 use Rattle.atlas_search.specs.Heaps.{Heap, IsHeap, members}
 use Rattle.atlas_search.specs.Heaps.Heap.{Top}
 use Rattle.atlas_search.specs.Items.{Item, forked, item_at, item_box, item_sides, linked}
@@ -64,7 +64,7 @@ module _ (es fs gs : List Item) (tag top near at : ℕ) (h : Heap) (can : CanPus
     (free : (item_at es near).left ≡ no_slot) (first : ComesFirst (item_box (item_at es near)) (item_box (item_at es at)))
     (fork : (item_at es near).is_fork ≡ false) (alike : item_sides (item_at es near) ≡ item_sides (item_at es at))
     (is : IsPut es fs at near no_slot no_slot false)
-    (then : IsLinked fs gs near (item_at fs near).up at (item_at fs near).right) where
+    (then : IsRelinked fs gs near (item_at fs near).up at (item_at fs near).right) where
   near-in : 0 < occurs near (members h)
   near-in = elim can.near [ inl e ↦ absurd (some e) | inr l ↦ l ]
 
@@ -165,6 +165,3 @@ module _ (es fs gs : List Item) (tag top near at : ℕ) (h : Heap) (can : CanPus
     others = λ k ne none. kept k (λ e. omega (arith, none, near-in, ap (λ n. occurs n (members h)) e)) ne;
     routed = routes.routed (cell_of (item_sides (item_at es at))) can.routed;
   }
-
-  pub pushed-near_areas : KeepsAreas es gs
-  pushed-near_areas = areas

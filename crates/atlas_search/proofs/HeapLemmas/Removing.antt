@@ -3,7 +3,7 @@ use Rattle.std.proofs.Common.{◌≡◌, ◌≢◌, ℕ, ◌+◌, ◌<◌, ◌�
 use Rattle.std.proofs.lemmas.Bool.{cases_eq, eq-eqb, ne_eqb, cond-true, cond-false}
 use Rattle.atlas_search.specs.Numbers.{occurs, same, no_slot}
 use Rattle.atlas_search.proofs.Occurrences.{same-self}
-use Rattle.atlas_search.specs.HeapCalls.{AreApart, ArePartsBelow, CanRemove, HasLeft, HasRemoved, IsLinked, IsMelded, KeepsAreas}
+use Rattle.atlas_search.specs.HeapCalls.{AreSeparate, ArePartsBelow, CanRemove, HasLeft, HasRemoved, IsRelinked, IsMelded, KeepsAreas}
 use Rattle.atlas_search.specs.Heaps.{Heap, IsHeap, members}
 use Rattle.atlas_search.specs.Heaps.Heap.{None, Top}
 use Rattle.atlas_search.specs.Forks.{IsRouted, Reroutes}
@@ -106,7 +106,7 @@ module _ (es fs : List Item) (at up : ℕ) (l r : Heap) (a : ArePartsBelow es at
 
   -- Nothing is on the left.
   below-right : (item_at es at).left ≡ no_slot → (item_at es at).right ≢ no_slot
-      → IsLinked es fs (item_at es at).right up (item_at es (item_at es at).right).left (item_at es (item_at es at).right).right
+      → IsRelinked es fs (item_at es at).right up (item_at es (item_at es at).right).left (item_at es (item_at es at).right).right
       → IsMelded es fs up (item_at es at).right l r
   below-right no_left some is =
       let low = none-of es at (item_at es at).left l a.short a.low no_left in
@@ -121,7 +121,7 @@ module _ (es fs : List Item) (at up : ℕ) (l r : Heap) (a : ArePartsBelow es at
 
   -- Nothing is on the right.
   below-left : (item_at es at).right ≡ no_slot → (item_at es at).left ≢ no_slot
-      → IsLinked es fs (item_at es at).left up (item_at es (item_at es at).left).left (item_at es (item_at es at).left).right
+      → IsRelinked es fs (item_at es at).left up (item_at es (item_at es at).left).left (item_at es (item_at es at).left).right
       → IsMelded es fs up (item_at es at).left l r
   below-left no_right some is =
       let high = none-of es at (item_at es at).right r a.short a.high no_right in
@@ -135,7 +135,7 @@ module _ (es fs : List Item) (at up : ℕ) (l r : Heap) (a : ArePartsBelow es at
       }
 
   below-both : (item_at es at).left ≢ no_slot → (item_at es at).right ≢ no_slot
-      → AreApart es at (item_at es at).left l at (item_at es at).right r
+      → AreSeparate es at (item_at es at).left l at (item_at es at).right r
   below-both some more = record {
     short = a.short;
     heap = a.low;
@@ -153,20 +153,21 @@ module _ (es fs : List Item) (at up : ℕ) (l r : Heap) (a : ArePartsBelow es at
     closes-none a b = subst (λ n. IsMelded es es up n l r) (sym is_right) (below-none (sym is_left ∙ a) (sym is_right ∙ b))
 
     pub closes-right : on_left ≡ no_slot → on_right ≢ no_slot
-        → IsLinked es fs on_right up (item_at es on_right).left (item_at es on_right).right
+        → IsRelinked es fs on_right up (item_at es on_right).left (item_at es on_right).right
         → IsMelded es fs up on_right l r
-    closes-right a = subst (λ n. n ≢ no_slot → IsLinked es fs n up (item_at es n).left (item_at es n).right
+    closes-right a = subst (λ n. n ≢ no_slot → IsRelinked es fs n up (item_at es n).left (item_at es n).right
         → IsMelded es fs up n l r) (sym is_right) (below-right (sym is_left ∙ a))
 
     pub closes-left : on_right ≡ no_slot → on_left ≢ no_slot
-        → IsLinked es fs on_left up (item_at es on_left).left (item_at es on_left).right
+        → IsRelinked es fs on_left up (item_at es on_left).left (item_at es on_left).right
         → IsMelded es fs up on_left l r
-    closes-left a = subst (λ n. n ≢ no_slot → IsLinked es fs n up (item_at es n).left (item_at es n).right
+    closes-left a = subst (λ n. n ≢ no_slot → IsRelinked es fs n up (item_at es n).left (item_at es n).right
         → IsMelded es fs up n l r) (sym is_left) (below-left (sym is_right ∙ a))
 
-    pub closes-both : on_left ≢ no_slot → on_right ≢ no_slot → AreApart es at on_left l at on_right r
-    closes-both = subst (λ n. n ≢ no_slot → on_right ≢ no_slot → AreApart es at n l at on_right r) (sym is_left)
-        (subst (λ n. (item_at es at).left ≢ no_slot → n ≢ no_slot → AreApart es at (item_at es at).left l at n r) (sym is_right) below-both)
+    pub closes-both : on_left ≢ no_slot → on_right ≢ no_slot → AreSeparate es at on_left l at on_right r
+    closes-both = subst (λ n. n ≢ no_slot → on_right ≢ no_slot → AreSeparate es at n l at on_right r) (sym is_left)
+        (subst (λ n. (item_at es at).left ≢ no_slot → n ≢ no_slot → AreSeparate es at (item_at es at).left l at n r) (sym is_right)
+        below-both)
 
     pub closes-inside : on_left ≢ no_slot → on_left < length es
     closes-inside some = heap-inside es at on_left l (subst (λ n. IsHeap es at n l) (sym is_left) a.low) on_left
@@ -249,7 +250,7 @@ module _ (es fs gs : List Item) (tag top rest at : ℕ) (h : Heap) (can : CanRem
     upper : item_at fs c.0 ≡ item_at es c.0
     upper = m.others c.0 (omega (arith, all c.0, same-self c.0))
 
-    module _ (is : IsLinked fs gs c.0 (item_at fs c.0).up rest (item_at fs c.0).right) where
+    module _ (is : IsRelinked fs gs c.0 (item_at fs c.0).up rest (item_at fs c.0).right) where
       areas : KeepsAreas es gs
       areas = plain-then es fs gs kept (plain-areas fs gs (linked-areas fs gs c.0 (item_at fs c.0).up rest (item_at fs c.0).right is))
 
@@ -321,7 +322,7 @@ module _ (es fs gs : List Item) (tag top rest at : ℕ) (h : Heap) (can : CanRem
     upper_right : item_at fs c.0 ≡ item_at es c.0
     upper_right = n.others c.0 (omega (arith, all_right c.0, same-self c.0))
 
-    module _ (is : IsLinked fs gs c.0 (item_at fs c.0).up (item_at fs c.0).left rest) where
+    module _ (is : IsRelinked fs gs c.0 (item_at fs c.0).up (item_at fs c.0).left rest) where
       areas_right : KeepsAreas es gs
       areas_right = plain-then es fs gs kept (plain-areas fs gs (linked-areas fs gs c.0 (item_at fs c.0).up (item_at fs c.0).left rest is))
 
@@ -390,11 +391,11 @@ module _ (es fs gs : List Item) (tag top rest at : ℕ) (h : Heap) (can : CanRem
 
   -- The entry above has the rest on its left, or else on its right.
   pub entry-removed : (up : ℕ) → up ≡ (item_at es at).up
-      → (((item_at fs up).left ≡ at) × IsLinked fs gs up (item_at fs up).up rest (item_at fs up).right)
-      ⊎ (((item_at fs up).left ≢ at) × IsLinked fs gs up (item_at fs up).up (item_at fs up).left rest)
+      → (((item_at fs up).left ≡ at) × IsRelinked fs gs up (item_at fs up).up rest (item_at fs up).right)
+      ⊎ (((item_at fs up).left ≢ at) × IsRelinked fs gs up (item_at fs up).up (item_at fs up).left rest)
       → HasRemoved es gs tag top rest at h
-  entry-removed up e = subst (λ n. (((item_at fs n).left ≡ at) × IsLinked fs gs n (item_at fs n).up rest (item_at fs n).right)
-      ⊎ (((item_at fs n).left ≢ at) × IsLinked fs gs n (item_at fs n).up (item_at fs n).left rest)
+  entry-removed up e = subst (λ n. (((item_at fs n).left ≡ at) × IsRelinked fs gs n (item_at fs n).up rest (item_at fs n).right)
+      ⊎ (((item_at fs n).left ≢ at) × IsRelinked fs gs n (item_at fs n).up (item_at fs n).left rest)
       → HasRemoved es gs tag top rest at h) (sym (e ∙ c.1.is_up)) (λ w. elim w [
         | inl q ↦ left-removed (sym (ap (λ (t : Item). t.left) above-stays) ∙ q.0) q.1
         | inr q ↦ elim c.1.side [

@@ -4,8 +4,9 @@ use Rattle.std.proofs.lemmas.Bool.{cases_eq, true≢false}
 use Rattle.atlas_search.specs.declared.cells.Cell.{Cell}
 use Rattle.atlas_model.specs.Boxes.{Sides}
 use Rattle.atlas_model.specs.Choice.{ComesFirst}
+use Rattle.atlas_model.proofs.ChoiceLemmas.PickExistence.{first-then}
 use Rattle.atlas_search.specs.Forks.{IsAlike, IsCell, IsIn, IsRouted, IsSplit, high, low}
-use Rattle.atlas_search.specs.HeapCalls.{AreApart, CanSort, HasSorted, IsForked, IsMelded, IsPut, KeepsAreas, KeepsKinds}
+use Rattle.atlas_search.specs.HeapCalls.{AreSeparate, CanSort, HasSorted, IsForked, IsMelded, IsPut, KeepsAreas, KeepsKinds}
 use Rattle.atlas_search.specs.Heaps.{Heap, IsAbove, IsHeap, members}
 use Rattle.atlas_search.specs.Heaps.Heap.{Top}
 use Rattle.atlas_search.specs.Items.{Item, forked, item_at, item_box, item_sides, linked}
@@ -18,7 +19,7 @@ use Rattle.atlas_search.proofs.HeapLemmas.Joining.{joined-areas, joined-first, j
 use Rattle.atlas_search.proofs.HeapLemmas.Joining.{routes-q}
 use Rattle.atlas_search.proofs.HeapLemmas.Alone.{alone, alone-has, alone-is}
 use Rattle.atlas_search.proofs.SearchLemmas.Cells.{high-cell, low-cell, two-sizes}
-use Rattle.atlas_search.proofs.SearchLemmas.Heaps.{first-then, heap-inside, none-of, occurs-top, top-first, top-of}
+use Rattle.atlas_search.proofs.SearchLemmas.Heaps.{heap-inside, none-of, occurs-top, top-first, top-of}
 use Rattle.atlas_search.proofs.SearchLemmas.Routes.{alike-routed, routed-alike, routed-frame, sides-same}
 
 module _ (es fs : List Item) (c : Cell) (top at : ℕ) (h : Heap) (can : CanSort es c top at h) where
@@ -80,7 +81,7 @@ module _ (es fs : List Item) (c : Cell) (top at : ℕ) (h : Heap) (can : CanSort
     }
 
     -- It hangs elsewhere, and has the size of all of them.
-    pub sorted-over : top ≢ no_slot → AreApart fs up at (alone at) can.under top h
+    pub sorted-over : top ≢ no_slot → AreSeparate fs up at (alone at) can.under top h
     sorted-over some = record {
       short = omega (arith, can.short, is.long);
       heap = here;
@@ -98,7 +99,7 @@ module _ (es fs : List Item) (c : Cell) (top at : ℕ) (h : Heap) (can : CanSort
         (λ j l. first-then (item_box (item_at es at)) (item_box (item_at es top)) (item_box (item_at es j)) order
         (first-of es can.under top h can.heap j l))
 
-    pub sorted-apart : top ≢ no_slot → up ≡ (item_at es top).up → AreApart fs can.under top h can.under at (alone at)
+    pub sorted-apart : top ≢ no_slot → up ≡ (item_at es top).up → AreSeparate fs can.under top h can.under at (alone at)
     sorted-apart some link = record {
       short = omega (arith, can.short, is.long);
       heap = heap-frame es fs can.under top h is.long (λ k l. is.others k (out k l)) can.heap;
@@ -175,9 +176,6 @@ module _ (es : List Item) (c : Cell) (top at : ℕ) (l r : Heap) (can : CanSort 
     | inl a ↦ subst (λ n. n < length es) (sym a.1) can.inside
     | inr a ↦ subst (λ n. n < length es) (sym a.1) can.heap.0.1
   ]
-
-  pub rest-solid : IsSolid (item_at es rest).area
-  rest-solid = can.exact rest (omega (arith, counts rest, same-self rest, occurs-top rest top l r))
 
   first-in : IsIn (item_sides (item_at es first)) c
   first-in = elim two [

@@ -3,14 +3,14 @@ use Rattle.std.proofs.Common.{◌≡◌, ◌≢◌, ℕ, ◌+◌, ◌<◌, List,
 use Rattle.atlas_model.specs.Choice.{ComesFirst}
 use Rattle.atlas_search.specs.Numbers.{no_slot}
 use Rattle.atlas_search.specs.Rectangles.{IsSolid}
-use Rattle.atlas_search.specs.HeapCalls.{AreApart, IsHungLeft, IsLinked, IsMelded}
+use Rattle.atlas_search.specs.HeapCalls.{AreSeparate, IsHungLeft, IsRelinked, IsMelded}
 use Rattle.atlas_search.specs.Heaps.{Heap}
 use Rattle.atlas_search.specs.Items.{Item, item_at, item_box}
-use Rattle.atlas_search.proofs.HeapLemmas.Hanging.{IsHanging, hanging-ends, hanging-passes, hanging-takes, next-apart, next-inside}
+use Rattle.atlas_search.proofs.HeapLemmas.Hanging.{IsHanging, hanging-ends, hanging-passes, hanging-takes, next-inside}
 use Rattle.atlas_search.proofs.HeapLemmas.Hanging.{next-solid, swap-hangs}
 use Rattle.atlas_search.proofs.HeapLemmas.Spines.{falls-passing, falls-taking, spine}
 
-module _ (es fs gs : List Item) (up top under part : ℕ) (g h : Heap) (above rest next : ℕ) (a : AreApart es up top g under part h)
+module _ (es fs gs : List Item) (up top under part : ℕ) (g h : Heap) (above rest next : ℕ) (a : AreSeparate es up top g under part h)
     (s : IsHanging es fs up top g h above rest) (is_next : next ≡ (item_at fs above).right) where
   pub turn-inside : next ≢ no_slot → next < length fs
   turn-inside = subst (λ n. n ≢ no_slot → n < length fs) (sym is_next) (next-inside es fs gs up top g h above rest a.short a.once s)
@@ -19,12 +19,9 @@ module _ (es fs gs : List Item) (up top under part : ℕ) (g h : Heap) (above re
   turn-solid = subst (λ n. n ≢ no_slot → IsSolid (item_at fs n).area) (sym is_next)
       (next-solid es fs gs up top g h above rest a.short a.once s a.exact)
 
-  pub turn-apart : next ≢ no_slot → above ≢ next
-  turn-apart = subst (λ n. n ≢ no_slot → above ≢ n) (sym is_next) (next-apart es fs gs up top g h above rest a.short a.once s)
-
-  pub turn-swaps : next ≢ no_slot → IsLinked fs gs above (item_at fs above).up (item_at fs above).right (item_at fs above).left
+  pub turn-swaps : next ≢ no_slot → IsRelinked fs gs above (item_at fs above).up (item_at fs above).right (item_at fs above).left
       → IsHungLeft fs gs above next
-  turn-swaps = subst (λ n. n ≢ no_slot → IsLinked fs gs above (item_at fs above).up (item_at fs above).right (item_at fs above).left
+  turn-swaps = subst (λ n. n ≢ no_slot → IsRelinked fs gs above (item_at fs above).up (item_at fs above).right (item_at fs above).left
       → IsHungLeft fs gs above n) (sym is_next) (swap-hangs es fs gs up top g h above rest a.short a.once s)
 
   pub turn-ends : next ≡ no_slot → IsHungLeft fs gs above rest → IsMelded es gs up top g h

@@ -1,6 +1,6 @@
 -- Bands keep the order of sides, boxes of one list are of one class, and the lists of a class are its window.
-use Rattle.std.proofs.Common.{◌≡◌, ℕ, zero, suc, ◌+◌, ◌-◌, ◌*◌, ◌/◌, ◌<◌, ◌≤◌, ◌⊎◌, inl, inr, ◌↔◌, ℤ, pos, negsuc, ◌≤ℤ◌, true, false}
-use Rattle.std.proofs.Common.{nat_lt, refl, sym, ◌∙◌, subst, arith}
+use Rattle.std.proofs.Common.{◌≡◌, ℕ, zero, suc, ◌+◌, ◌-◌, ◌/◌, ◌<◌, ◌≤◌, ◌⊎◌, inl, inr, ◌↔◌, ℤ, pos, negsuc, ◌≤ℤ◌, true, false}
+use Rattle.std.proofs.Common.{nat_lt, refl, ◌∙◌, arith}
 use Rattle.std.specs.Prelude.{if◌then◌else◌, int_le}
 use Rattle.std.proofs.lemmas.Bool.{cases_Bool, cases_lt, cond_both, cond-true, cond-false, ltb-true, ltb-false, leb-true, leb-false}
 use Rattle.std.proofs.lemmas.Bool.{le-leb, lt-leb}
@@ -103,7 +103,7 @@ border_of-not_passed o (pos m) n is some h =
     (λ _. band_of-lt o (pos m) n m is (omega arith) h (le-leb m m (omega arith)))
 border_of-not_passed o (negsuc m) n is some h = absurd (both_ways true h refl)
 
-natural_mono : (a b : ℤ) → a ≤ℤ b → natural a ≤ natural b
+pub natural_mono : (a b : ℤ) → a ≤ℤ b → natural a ≤ natural b
 natural_mono (pos a) (pos b) l = omega (arith, ints)
 natural_mono (pos a) (negsuc b) l = absurd (omega (arith, ints))
 natural_mono (negsuc a) b l = omega arith
@@ -196,22 +196,5 @@ class_of-most o s = grind arith
 
 -- ---- lists
 
-pub same_place : (i j k l : ℕ) → j < 52 → l < 52 → 52 * i + j ≡ 52 * k + l → (i ≡ k) × (j ≡ l)
-same_place i j k l p q e = (omega arith, omega arith)
-
-pub same_bands : (o : Options) (s t : Sides) → list_of o s ≡ list_of o t
-    → (band_of o s.width ≡ band_of o t.width) × (band_of o s.height ≡ band_of o t.height)
-same_bands o s t e = grind (arith, same_place, band_below)
-
 pub list_of-most : (o : Options) (s : Sides) → list_of o s < 2704
 list_of-most o s = omega (arith, band_below o s.width, band_below o s.height)
-
--- Boxes of one list are of one class.
-pub same_class : (o : Options) (s t : Sides) → AreValid o → IsPositive s → IsPositive t → list_of o s ≡ list_of o t
-    → class_of o s ≡ class_of o t
-same_class o s t valid p q e =
-    let bands = same_bands o s t e in
-    let c = class_of o t in
-    let w = (window_law o t c valid q (class_of-most o t)).0 refl in
-    (window_law o s c valid p (class_of-most o t)).1 (subst (λ i. IsInWindow o c i (band_of o s.height)) (sym bands.0)
-    (subst (λ j. IsInWindow o c (band_of o t.width) j) (sym bands.1) w))

@@ -7,6 +7,7 @@ use Rattle.std.proofs.lemmas.List.Elements.{Contains-push, Contains-push_cases, 
 use Rattle.atlas_model.specs.Boxes.{Sides, Box, box_sides, Fits}
 use Rattle.atlas_model.specs.Choice.{least_margin, HasEqualSide, ComesFirst}
 use Rattle.atlas_model.specs.Pixels.{natural, rectangle_of}
+use Rattle.atlas_model.proofs.ChoiceLemmas.PickExistence.{first-then}
 use Rattle.atlas_search.specs.Requests.{IsBefore, IsBetterMargin, PrecedesBox}
 use Rattle.atlas_search.specs.Searches.{Shown, IsAsGood, IsBestShown, FitsNone}
 
@@ -65,9 +66,6 @@ equal_side_cases r b = grind arith
 as_good-same : (is_large : Bool) (r : Sides) (a b : Box) → (HasEqualSide r b → HasEqualSide r a)
     → least_margin r a ≡ least_margin r b → IsAsGood is_large r a b
 as_good-same is_large r a b h e = grind (arith, equal_side_cases)
-
-comes_first-trans : (a b c : Box) → ComesFirst a b → ComesFirst b c → ComesFirst a c
-comes_first-trans a b c p q = grind arith
 
 comes_first-before : (b c : Box) → IsBefore (rectangle_of b).min (rectangle_of c).min → ComesFirst b c
 comes_first-before b c p = grind (arith, ints)
@@ -136,7 +134,7 @@ best_replaced is_large r shown f c best fits better = record {
       (λ _. as_good-same is_large r c.box c.box (λ k. k) refl);
   first =
       push-each shown c (λ d earlier fits' good.
-      comes_first-trans c.box f.box d.box
+      first-then c.box f.box d.box
       (better.1 (as_good-trans is_large r f.box d.box c.box (best.best d earlier fits') good))
       (best.first d earlier fits' (as_good-trans is_large r d.box c.box f.box good better.0))) (λ _ _. inr (refl, omega arith));
 }

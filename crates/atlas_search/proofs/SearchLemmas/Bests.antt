@@ -10,6 +10,7 @@ use Rattle.atlas_search.specs.Bests.{IsAhead, IsFarther, IsKeptOf, HasSeen}
 use Rattle.atlas_model.specs.Boxes.{Sides, Box, box_sides, Fits}
 use Rattle.atlas_model.specs.Choice.{least_margin, HasEqualSide, ComesFirst}
 use Rattle.atlas_model.specs.Pixels.{natural, box_of, rectangle_of, sides_of}
+use Rattle.atlas_model.proofs.ChoiceLemmas.PickExistence.{first-then}
 use Rattle.atlas_search.specs.Ranks.{corner_of, rank_of, no_rank, IsReach}
 use Rattle.atlas_search.specs.Requests.{IsBefore, IsBetterMargin, PrecedesBox}
 use Rattle.atlas_search.specs.Searches.{Shown, shown_at, IsAsGood, IsBestShown}
@@ -189,9 +190,6 @@ module _ (s : Best) (is_large : Bool) (r : Sides) (shown : List Shown) (seen : H
       pub larger-ahead : (at : ℕ) → IsAhead rank corner s
           → (rank < no_rank) × IsKeptOf is_large r (shown ++ shown_at (box_of a) at ∷ []) rank corner at
       larger-ahead = ranked-ahead m rank fits_larger margin_larger rank_larger
-
-comes-then : (a b c : Box) → ComesFirst a b → ComesFirst b c → ComesFirst a c
-comes-then a b c p q = grind arith
 
 -- Boxes that are passed over: those with an equal side come after the best, which has an equal side too.
 pub seen-over : (s : Best) (is_large : Bool) (r : Sides) (shown more : List Shown) → HasSeen s is_large r shown
@@ -430,7 +428,7 @@ seen-alike s is_large r shown more d seen alike =
       ];
       first = λ c has fits good. elim (Contains-append_cases (shown ++ d ∷ []) more c has) [
         | inl x ↦ k.first c x fits good
-        | inr y ↦ comes-then f.box d.box c.box
+        | inr y ↦ first-then f.box d.box c.box
             (k.first d here (as-fits c y fits) (alike-good is_large r f.box c.box d.box (alike c y).0 good)) (alike c y).1
       ];
     }

@@ -1,7 +1,7 @@
 -- The heads of marked lists, written one after another as those of empty lists.
-use Rattle.std.proofs.Common.{◌≡◌, ℕ, ◌+◌, ◌*◌, ◌/◌, ◌%◌, ◌<◌, ◌⊎◌, ◌∙◌, inl, inr, Bool, true, false, List, length, slice_set, refl, sym}
+use Rattle.std.proofs.Common.{◌≡◌, ℕ, ◌+◌, ◌*◌, ◌/◌, ◌%◌, ◌<◌, ◌∙◌, inl, inr, true, false, List, length, slice_set, sym}
 use Rattle.std.proofs.Common.{ap, arith}
-use Rattle.std.proofs.lemmas.Bool.{cases_lt, true≢false}
+use Rattle.std.proofs.lemmas.Bool.{cases_lt, true≢false, false_from_ne_true, cases_Bool}
 use Rattle.std.proofs.lemmas.List.{length-set}
 use Rattle.atlas_search.specs.declared.masks.Mask.{Mask}
 use Rattle.atlas_search.specs.declared.link.Link.{Link}
@@ -9,14 +9,6 @@ use Rattle.atlas_search.specs.Masks.{has, IsMarked, is_marked_at}
 use Rattle.atlas_search.specs.Tables.{no_link, is_used_at}
 use Rattle.atlas_search.proofs.SearchLemmas.AddedLines.{IsRest, rest-cases}
 use Rattle.atlas_search.proofs.SearchLemmas.TableHeads.{blank-same, blank-kept, used-past}
-
-true_or_false : (b : Bool) → (b ≡ true) ⊎ (b ≡ false)
-true_or_false true = inl refl
-true_or_false false = inr refl
-
-not_true : (b : Bool) → (b ≡ true → ⊥) → b ≡ false
-not_true true h = absurd (h refl)
-not_true false h = refl
 
 -- Of these columns those that aren't left are empty, and what was empty is.
 pub record IsBlanked (old new : List Link) (row : ℕ) (columns left : Mask) : Type 0 where
@@ -63,7 +55,7 @@ pub rows-begin-blank : (heads : List Link) (rows : List Mask) (used : Mask) → 
 rows-begin-blank heads rows used long marked each = record {
   long = long;
   blank = λ i j p q none.
-      not_true (is_used_at heads (52 * i + j)) (λ u. true≢false (sym (each i j (marked i j p q u)) ∙ none));
+      false_from_ne_true (is_used_at heads (52 * i + j)) (λ u. true≢false (sym (each i j (marked i j p q u)) ∙ none));
   kept = λ k h. h;
 }
 
@@ -76,7 +68,7 @@ rows-go_on-blank old new newer rows row columns left rest marked is same b long 
   long = long;
   blank = λ i j p q none. elim (rest-cases left rest row i is none) [
     | inl before ↦ kept (52 * i + j) (b.blank i j p q before)
-    | inr here ↦ elim (true_or_false (is_used_at old (52 * i + j))) [
+    | inr here ↦ elim (cases_Bool (is_used_at old (52 * i + j))) [
       | inl u ↦
           ap (λ n. is_used_at newer (52 * n + j)) here
           ∙ blank j (same j ∙ ap (λ n. is_marked_at rows n j) (sym here) ∙ marked i j p q u)

@@ -1,10 +1,10 @@
 -- Cells and their halves.
-use Rattle.std.proofs.Common.{◌≡◌, ◌≢◌, ℕ, ◌+◌, ◌-◌, ◌*◌, ◌/◌, ◌<◌, ◌≤◌, ◌⊎◌, Bool, true, false, refl, ap, sym, ◌∙◌, arith}
-use Rattle.std.proofs.lemmas.Bool.{eqb-true, eqb-false, ltb-true, ltb-false}
+use Rattle.std.proofs.Common.{◌≡◌, ◌≢◌, ℕ, ◌+◌, ◌-◌, ◌*◌, ◌/◌, ◌<◌, ◌≤◌, ◌⊎◌, Bool, true, false, inl, inr, refl, ap, sym, ◌∙◌, arith}
+use Rattle.std.proofs.lemmas.Bool.{and_parts, eqb-true, eqb-false, ltb-true, ltb-false}
 use Rattle.atlas_search.specs.declared.cells.Cell.{Cell}
 use Rattle.atlas_model.specs.Boxes.{Sides, IsPositive}
-use Rattle.atlas_search.specs.Forks.{HasHalves, IsCell, IsIn, IsSplit, cell_of, end_of, first_of, half, high, high_by, is_cut_wide}
-use Rattle.atlas_search.specs.Forks.{low, low_by, middle}
+use Rattle.atlas_search.specs.Forks.{HasHalves, IsCell, IsIn, IsSplit, cell_of, end_of, first_of, half, high, high_by, is_before_end}
+use Rattle.atlas_search.specs.Forks.{is_beyond, is_cut_wide, low, low_by, middle}
 
 -- How many sides a cell has.
 abbrev pub breadth : Cell → ℕ
@@ -228,3 +228,14 @@ pub not-cut-wide : (c : Cell) → c.right - c.left ≢ 2 → (c.bottom - c.top �
     → is_cut_wide c ≡ false
 unfolding is_cut_wide
 not-cut-wide c n narrow = grind (arith, ltb-true, eqb-true, eqb-false)
+
+-- What isn't before an end is beyond it.
+pub past-end : (is_wide : Bool) (s : Sides) (c : Cell) → is_before_end is_wide s c ≡ false
+    → (c.right ≤ s.width) ⊎ (c.bottom ≤ s.height)
+past-end true s c past = inl (ltb-false s.width c.right past)
+past-end false s c past = inr (ltb-false s.height c.bottom past)
+
+pub both-beyond : (s : Sides) (more : ℕ) (c : Cell) → is_beyond s more c ≡ true
+    → (s.width + more < c.left) × (s.height + more < c.top)
+both-beyond s more c beyond =
+    let p = and_parts _ _ beyond in (ltb-true (s.width + more) c.left p.0, ltb-true (s.height + more) c.top p.1)

@@ -217,12 +217,6 @@ pub stored-heads : (stored : List Link) (only : List ℕ) → 0 < length stored 
 stored-heads [] only some = absurd (omega (arith, some))
 stored-heads (h ∷ hs) only some = refl
 
-pub none-stored : (stored : List Link) (marks : List (List Mask)) (emptied k : ℕ) → AreStored stored marks emptied → k < 2704
-    → length stored ≤ k → stored ≡ []
-none-stored [] marks emptied k are below past = refl
-none-stored (h ∷ hs) [] emptied k are below past = absurd are
-none-stored (h ∷ hs) (m ∷ ms) emptied k are below past = absurd (omega (arith, are.1.count, below, past))
-
 pub some-stored : (stored : List Link) (marks : List (List Mask)) (emptied : ℕ) → AreStored stored marks emptied → 0 < length stored
     → (m : List Mask) × (marks ≡ m ∷ []) × IsTable stored m emptied
 some-stored [] marks emptied are some = absurd (omega (arith, some))
@@ -233,19 +227,6 @@ pub read-stored : (stored : List Link) (only : List ℕ) (k : ℕ) (e : Link) �
     → e ≡ head_of (heads_in stored only) k
 read-stored stored only k e l read =
     read-head stored k e l read ∙ ap (λ hs. head_of hs k) (sym (stored-heads stored only (omega (arith, l))))
-
-pub read-few : (stored : List Link) (only : List ℕ) (k : ℕ) (e : Link) → stored ≡ [] → e ≡ head_of (heads_from only 0) k
-    → e ≡ head_of (heads_in stored only) k
-read-few [] only k e none read = read
-read-few (h ∷ hs) only k e none read = absurd (omega (arith, ap (λ xs. length xs) none))
-
--- What stands by where no heads are stored.
-module _ (stored : List Link) (only : List ℕ) (none : stored ≡ []) where
-  pub few-heads : heads_in stored only ≡ heads_from only 0
-  few-heads = ap (λ hs. heads_in hs only) none
-
-  pub few-is : is_stored stored ≡ false
-  few-is = ap is_stored none
 
 -- A head is written where heads are stored.
 module _ (old new : List Link) (only : List ℕ) (k : ℕ) (first : Link) (l : k < length old) (is : new ≡ slice_set old k first) where
@@ -260,23 +241,10 @@ module _ (old new : List Link) (only : List ℕ) (k : ℕ) (first : Link) (l : k
       ap (λ hs. head_of hs j) (stored-heads new only longer ∙ is) ∙ head_of-other old k first j ne
       ∙ ap (λ hs. head_of hs j) (sym (stored-heads old only (omega (arith, l))))
 
-pub same-stored : (xs ys : List Link) → length ys ≡ length xs → is_stored ys ≡ is_stored xs
-same-stored [] [] e = refl
-same-stored [] (y ∷ ys) e = absurd (omega (arith, e))
-same-stored (x ∷ xs) [] e = absurd (omega (arith, e))
-same-stored (x ∷ xs) (y ∷ ys) e = refl
-
 -- Marks are stored with heads.
 pub stored-again : (heads : List Link) (m : List Mask) (emptied : ℕ) → IsTable heads m emptied → AreStored heads (m ∷ []) emptied
 stored-again [] m emptied is = absurd (omega (arith, is.count))
 stored-again (h ∷ hs) m emptied is = (refl, is)
-
--- The marks that are stored, or none.
-pub no-marks : (stored : List Link) (marks : List (List Mask)) (emptied : ℕ) → AreStored stored marks emptied → stored ≡ []
-    → marks ≡ []
-no-marks [] [] emptied are e = refl
-no-marks [] (m ∷ ms) emptied are e = absurd are
-no-marks (h ∷ hs) marks emptied are e = absurd (omega (arith, ap (λ hs. length hs) e))
 
 pub no-heads : (stored : List Link) (marks : List (List Mask)) (emptied : ℕ) → AreStored stored marks emptied → marks ≡ []
     → stored ≡ []

@@ -24,9 +24,6 @@ occurs-top i at left right = ap (λ n. same i at + n) (occurs-append i (members 
 pub first-self : (b : Box) → ComesFirst b b
 first-self b = inr (refl, omega arith)
 
-pub first-then : (a b c : Box) → ComesFirst a b → ComesFirst b c → ComesFirst a c
-first-then a b c f g = grind arith
-
 -- What begins with the lesser corner comes first.
 pub corner-first : (a b : Box) → a.min.x < 4294967296 → b.min.x < 4294967296 → corner_of a ≤ corner_of b → ComesFirst a b
 corner-first a b na nb l = elim (cases_eq a.min.y b.min.y) [

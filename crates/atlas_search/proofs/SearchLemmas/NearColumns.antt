@@ -1,7 +1,7 @@
 -- Columns of a row that can't hold a better box than the best.
 use Rattle.std.proofs.Common.{◌≡◌, ℕ, ◌<◌, ◌==◌, ◌&&◌, ◌⊎◌, Bool, true, false, not, List, length, refl, sym, ◌∙◌, subst, inl, inr}
 use Rattle.std.proofs.Common.{arith}
-use Rattle.std.proofs.lemmas.Bool.{true≢false, and_from, cases_Bool, eq-eqb, eqb-true, not-true, not_from_false}
+use Rattle.std.proofs.lemmas.Bool.{true≢false, and_from, cases_Bool, eq-eqb, eqb-true, not-true, not_from_false, and_parts}
 use Rattle.atlas_search.specs.declared.best.Best.{Best}
 use Rattle.atlas_search.specs.declared.link.Link.{Link}
 use Rattle.atlas_search.specs.declared.masks.Mask.{Mask}
@@ -17,7 +17,7 @@ use Rattle.atlas_search.proofs.SearchLemmas.AddedLists.{added-of, added-then}
 use Rattle.atlas_search.proofs.SearchLemmas.BandLaws.{list_of-most}
 use Rattle.atlas_search.proofs.SearchLemmas.Bests.{seen-misfits}
 use Rattle.atlas_search.proofs.SearchLemmas.Heaps.{listed-inside}
-use Rattle.atlas_search.proofs.SearchLemmas.SearchesBefore.{and_both, numbers_where, where-has, where-only}
+use Rattle.atlas_search.proofs.SearchLemmas.SearchesBefore.{numbers_where, where-has, where-only}
 use Rattle.atlas_search.proofs.SearchLemmas.ShownItems.{shown_items-has, shown_items-in}
 
 -- All of them are near.
@@ -53,9 +53,9 @@ module _ (o : Options) (heads : List Link) (es : List Item) (a : AreListed o hea
       let xs = numbers_where is_far (length es) in
       let only : (i : ℕ) → 0 < occurs i xs → is_far i ≡ true = λ i h. where-only is_far (length es) i h in
       let far : (i : ℕ) → 0 < occurs i xs → ((item_at es i).is_free ≡ true) × IsFarIn o row columns near (item_sides (item_at es i)) =
-      λ i h. let p = and_both _ _ (only i h) in
-      let q = and_both _ _ p.0 in
-      let w = and_both _ _ p.1 in
+      λ i h. let p = and_parts _ _ (only i h) in
+      let q = and_parts _ _ p.0 in
+      let w = and_parts _ _ p.1 in
       (q.0, record { in_row = eqb-true _ _ q.1; in_column = w.0; is_far = not-true _ w.1 }) in
       record {
         more = shown_items es xs;

@@ -1,28 +1,18 @@
 -- The best of the boxes shown is the pick of all free boxes, where the classes are searched from the request's upwards.
-use Rattle.std.proofs.Common.{ℕ, ◌<◌, ◌≤◌, ◌⊎◌, Bool, true, false, List, inl, inr, arith}
+use Rattle.std.proofs.Common.{ℕ, ◌≤◌, ◌⊎◌, Bool, true, false, List, inl, inr, arith}
 use Rattle.std.specs.Prelude.{◌==◌}
 use Rattle.std.specs.List.{Contains, All}
 use Rattle.std.proofs.lemmas.Bool.{eq-eqb, ne_eqb}
 use Rattle.std.proofs.lemmas.List.Elements.{All-contains}
 use Rattle.atlas_model.specs.Boxes.{Sides, Box, box_sides, Fits, IsNonempty, IsWithin}
-use Rattle.atlas_model.specs.Choice.{Options, up, rounded, class_of, HasEqualSide, IsFitting, IsCandidate, HasBetterMargin, IsPick}
+use Rattle.atlas_model.specs.Choice.{Options, class_of, HasEqualSide, IsFitting, IsCandidate, HasBetterMargin, IsPick}
 use Rattle.atlas_model.specs.Choice.{HasNoRoom}
 use Rattle.atlas_search.specs.Requests.{CanBeRounded}
 use Rattle.atlas_search.specs.Searches.{Shown, shown_at, IsAsGood, IsBestShown, FitsOnlyFrom, AreOfClass}
 use Rattle.atlas_search.proofs.SearchLemmas.BestMargins.{margin-equal_side, equal_side-margin, equal_side_cases}
+use Rattle.atlas_search.proofs.SearchLemmas.BandLaws.{class_of-most}
 
 -- Classes
-
-pub class_of-below : (o : Options) (a : Sides) → class_of o a < 3
-class_of-below o a = grind arith
-
--- No class is left.
-pub fits_nothing : (free : List Box) (o : Options) (r : Sides) → FitsOnlyFrom 3 free o r → (b : Box)
-    → IsFitting free r b → ⊥
-fits_nothing free o r from b fitting = omega (arith, from b fitting, class_of-below o (box_sides b))
-
-pub no_room : (free : List Box) (o : Options) (s : Sides) → FitsOnlyFrom 3 free o (rounded o s) → HasNoRoom free o s
-no_room free o s from room = fits_nothing free o (rounded o s) from room.box room.fitting
 
 -- A request that can't be rounded has no room in a size that an `i32` can hold.
 pub no_room_unrounded : (free : List Box) (o : Options) (s size : Sides) → (CanBeRounded o s → ⊥)
@@ -51,7 +41,7 @@ best_equal_side false r b c fb fc p e = let z = margin-equal_side r c fc e in eq
 as_good-best : (o : Options) (r : Sides) (b c : Box) → Fits r (box_sides b) → Fits r (box_sides c)
     → (HasEqualSide r c → HasEqualSide r b)
     → HasEqualSide r b ⊎ HasBetterMargin o r b c → IsAsGood (class_of o r == 2) r b c
-as_good-best o r b c fb fc h m = grind (arith, eq-eqb, ne_eqb, equal_side_cases, margin-equal_side, class_of-below)
+as_good-best o r b c fb fc h m = grind (arith, eq-eqb, ne_eqb, equal_side_cases, margin-equal_side, class_of-most)
 
 -- The best box shown of the lowest class with a fitting box is the pick.
 pub pick_of_class : (class : ℕ) (free : List Box) (o : Options) (r : Sides) (shown : List Shown) (f : Shown)
@@ -77,6 +67,3 @@ pick_of_class class free o r shown f from of best =
     }
 
 -- Rounding up gives the least multiple that is no less.
-
-pub up-le : (n a : ℕ) → 0 < a → n ≤ up n a
-up-le n a h = omega arith

@@ -1,7 +1,7 @@
 -- A search before a row and a column: the request's own row and column first, and the rest only if no equal side was found.
 use Rattle.std.proofs.Common.{◌≡◌, ℕ, zero, suc, ◌+◌, ◌*◌, ◌<◌, ◌≤◌, ◌⊎◌, ◌==◌, ◌&&◌, ◌||◌, nat_lt, nat_le, Bool, true, false, cond, List}
 use Rattle.std.proofs.Common.{[], ◌∷◌, length, refl, ap, sym, ◌∙◌, subst, inl, inr, arith}
-use Rattle.std.proofs.lemmas.Bool.{cases_eq, cond_both, true≢false}
+use Rattle.std.proofs.lemmas.Bool.{cases_eq, cond_both, true≢false, and_from, or_left, or_right, or_parts, and_parts}
 use Rattle.std.proofs.lemmas.Bool.Decides.{nat_tests}
 use Rattle.atlas_search.specs.declared.bands.Place.{Place}
 use Rattle.atlas_search.specs.declared.best.Best.{Best}
@@ -48,10 +48,6 @@ unfolding numbers_where
 where-only p zero i h = absurd (omega arith)
 where-only p (suc n) i h = grind (arith, numbers_where, where-only p n i, same-ne)
 
-pub and_both : (a b : Bool) → (a && b) ≡ true → (a ≡ true) × (b ≡ true)
-and_both true b e = (refl, e)
-and_both false b e = absurd (true≢false (sym e))
-
 lt_true : (m n : ℕ) → m < n → nat_lt m n ≡ true
 lt_true m n h = grind (arith, nat_tests)
 
@@ -64,35 +60,21 @@ le_true m n h = grind (arith, nat_tests)
 true_le : (m n : ℕ) → nat_le m n ≡ true → m ≤ n
 true_le m n h = grind (arith, nat_tests)
 
-pub and_of : (a b : Bool) → a ≡ true → b ≡ true → (a && b) ≡ true
-and_of a b e f = ap (λ t. t && b) e ∙ f
-
-pub or_left : (a b : Bool) → a ≡ true → (a || b) ≡ true
-or_left a b e = ap (λ t. t || b) e
-
-pub or_right : (a b : Bool) → b ≡ true → (a || b) ≡ true
-or_right true b e = refl
-or_right false b e = e
-
-neither : (a b : Bool) → (a || b) ≡ false → (a ≡ false) × (b ≡ false)
-neither true b e = absurd (true≢false e)
-neither false b e = (refl, e)
-
 -- The numbers of a mask from one on.
 abbrev pub KeepsFrom : (all from : Mask) → ℕ → Type 0
 KeepsFrom all from k = (j : ℕ) → has from j ≡ (has all j && nat_le k j)
 
 pub marked-from : (all from : Mask) (k j : ℕ) → KeepsFrom all from k → IsMarked all j → k ≤ j → IsMarked from j
-marked-from all from k j is h l = is j ∙ and_of _ _ h (le_true k j l)
+marked-from all from k j is h l = is j ∙ and_from _ _ h (le_true k j l)
 
 pub marked-below : (all below : Mask) (k j : ℕ) → KeepsBelow all below k → IsMarked all j → j < k → IsMarked below j
-marked-below all below k j is h l = is j ∙ and_of _ _ h (lt_true j k l)
+marked-below all below k j is h l = is j ∙ and_from _ _ h (lt_true j k l)
 
 pub below-marked : (all below : Mask) (k j : ℕ) → KeepsBelow all below k → IsMarked below j → IsMarked all j × (j < k)
-below-marked all below k j is h = let p = and_both _ _ (sym (is j) ∙ h) in (p.0, true_lt j k p.1)
+below-marked all below k j is h = let p = and_parts _ _ (sym (is j) ∙ h) in (p.0, true_lt j k p.1)
 
 pub from-marked : (all from : Mask) (k j : ℕ) → KeepsFrom all from k → IsMarked from j → IsMarked all j × (k ≤ j)
-from-marked all from k j is h = let p = and_both _ _ (sym (is j) ∙ h) in (p.0, true_le k j p.1)
+from-marked all from k j is h = let p = and_parts _ _ (sym (is j) ∙ h) in (p.0, true_le k j p.1)
 
 -- A column more, of those that the marked rows have a list in.
 pub rows-next : (heads : List Link) (first column : ℕ) (rows here more : Mask)
@@ -137,15 +119,15 @@ module _ (o : Options) (heads : List Link) (es : List Item) (own : Place) (r : S
         more = shown_items es xs;
         of_lists = λ c h.
             let t = shown_items-in es xs c h in
-            let p = and_both _ _ (only t.0 t.1) in
-            let q = and_both _ _ p.0 in
-            let below = and_both _ _ q.1 in
+            let p = and_parts _ _ (only t.0 t.1) in
+            let q = and_parts _ _ p.0 in
+            let below = and_parts _ _ q.1 in
             let P : Shown → Type 0 = λ d. ((item_at es d.at).is_free ≡ true) × (d ≡ shown_item es d.at) × IsItemBelow o es end d.at in
             subst P (sym t.2) (q.0, refl, (true_lt _ _ below.0, true_lt _ _ below.1));
         each = grind (arith, is_apart, lt_true, shown_items-has, where-has, inside-free);
         seen = λ is_large shown h. seen-passed s is_large r shown (shown_items es xs) h best_is (λ c has e.
             let t = shown_items-in es xs c has in
-            let p = and_both _ _ (and_both _ _ (only t.0 t.1)).1 in
+            let p = and_parts _ _ (and_parts _ _ (only t.0 t.1)).1 in
             let right : own.row < row_of t.0 = true_lt own.row (row_of t.0) p.0 in
             let under : own.column < column_of t.0 = true_lt own.column (column_of t.0) p.1 in
             let equal : HasEqualSide r (item_box (item_at es t.0)) = subst (λ (d : Shown). HasEqualSide r d.box) t.2 e in
@@ -226,7 +208,7 @@ module _ (o : Options) (heads : List Link) (es : List Item) (own : Place) (r : S
       → HasSeen s (class_of o r == 2) r [] → HasAdded o es end r (λ i j. (i ≡ own.row) × (j ≡ column)) s t → t.rank ≡ 0
       → HasSearched o es end r t
   searched-alone in_row in_column rest both column s t lr lc bc br is_rest either none begun list equal =
-      let empty : (j : ℕ) → (has rest j ≡ false) × (has in_column j ≡ false) = λ j. neither _ _ (sym (either j) ∙ none j) in
+      let empty : (j : ℕ) → (has rest j ≡ false) × (has in_column j ≡ false) = λ j. or_parts _ _ (sym (either j) ∙ none j) in
       searched in_row in_column s t t t lr lc bc br begun
       (λ _. added-of o es end r _ (IsInRow own.row in_row) s t
       (λ i j v. (

@@ -6,6 +6,7 @@ use Rattle.atlas_search.specs.declared.best.Best.{Best}
 use Rattle.atlas_search.specs.Bests.{HasSeen}
 use Rattle.atlas_model.specs.Boxes.{Box, Sides}
 use Rattle.atlas_model.specs.Choice.{ComesFirst}
+use Rattle.atlas_model.proofs.ChoiceLemmas.PickExistence.{first-then}
 use Rattle.atlas_search.specs.Items.{Item, item_at, item_box, shown_item, shown_items}
 use Rattle.atlas_search.specs.Lookups.{HasShown, HasShownTo}
 use Rattle.atlas_search.specs.Numbers.{occurs}
@@ -13,7 +14,7 @@ use Rattle.atlas_search.specs.Ranks.{corner_of}
 use Rattle.atlas_search.specs.Searches.{Shown}
 use Rattle.atlas_search.proofs.Occurrences.{same-self, same-ne}
 use Rattle.atlas_search.proofs.SearchLemmas.Bests.{seen-over}
-use Rattle.atlas_search.proofs.SearchLemmas.Heaps.{corner-first, first-then}
+use Rattle.atlas_search.proofs.SearchLemmas.Heaps.{corner-first}
 
 pub append-none : (xs : List Shown) → xs ≡ xs ++ []
 append-none [] = refl

@@ -1,7 +1,7 @@
 -- From turn to turn of a search: what is left of the lists of a request's own row and column, and which free entries it may still fit.
 use Rattle.std.proofs.Common.{◌≡◌, ℕ, ◌+◌, ◌*◌, ◌<◌, ◌≤◌, ◌⊎◌, ◌||◌, ◌==◌, max, nat_le, true, false, List, sym, ◌∙◌, subst, refl, inl, inr}
 use Rattle.std.proofs.Common.{arith}
-use Rattle.std.proofs.lemmas.Bool.{cases_eq, cases_lt, eq-eqb, ne_eqb, true≢false}
+use Rattle.std.proofs.lemmas.Bool.{cases_eq, cases_lt, eq-eqb, ne_eqb, true≢false, or_left, or_right}
 use Rattle.std.proofs.lemmas.Bool.Decides.{nat_tests}
 use Rattle.atlas_search.specs.declared.bands.Place.{Place}
 use Rattle.atlas_search.specs.declared.masks.Mask.{Mask}
@@ -15,7 +15,7 @@ use Rattle.atlas_search.specs.Masks.{KeepsBelow, has, IsMarked}
 use Rattle.atlas_search.specs.Tables.{is_used_at}
 use Rattle.atlas_search.proofs.SearchLemmas.AddedLists.{positive-at, used-at}
 use Rattle.atlas_search.proofs.SearchLemmas.BandLaws.{band_below, band_mono, class_of-most, start_mono, window_law}
-use Rattle.atlas_search.proofs.SearchLemmas.SearchesBefore.{KeepsFrom, marked-from, or_left, or_right}
+use Rattle.atlas_search.proofs.SearchLemmas.SearchesBefore.{KeepsFrom, marked-from}
 
 -- Each used list from a place on reaches this row or column.
 abbrev pub AreReaching : List Link → (own : Place) → (least : ℕ) → Type 0

@@ -1,6 +1,6 @@
 -- Slots that are calm hold a normal tree, and the steps of a freeing end there.
-use Rattle.std.proofs.Common.{ℕ, ◌+◌, ◌<◌, ◌≡◌, List, refl, sym, ◌∙◌, ◌⊎◌, arith, Bool, true, false}
-use Rattle.std.proofs.lemmas.Bool.{true≢false}
+use Rattle.std.proofs.Common.{ℕ, ◌+◌, ◌<◌, ◌≡◌, List, refl, sym, ◌∙◌, ◌⊎◌, arith, true, false}
+use Rattle.std.proofs.lemmas.Bool.{true≢false, false_from_ne_true}
 use Rattle.atlas_store.specs.declared.slots.Node.{Node}
 use Rattle.atlas_store.specs.declared.slots.NodeKind.TheVariants as kind
 use Rattle.atlas_store.specs.Slots.{node_at, use_count}
@@ -28,17 +28,13 @@ not-idle ns s p (Free j e End) np ne calm h =
     absurd (np (sym h.0.parent ∙ (calm j (omega (arith, same-self j))).nested h.0.kind h.0.previous h.0.next))
 not-idle ns s p n np ne calm h = refl
 
-false-from : (b : Bool) → (b ≡ true → ⊥) → b ≡ false
-false-from true never = absurd (never refl)
-false-from false never = refl
-
 pub normal-from_calm : (ns : List Node) (s : Sequence) (b p : ℕ) (n : Numbered) → tally no_slot n ≡ 0
     → NoneEmpty (erase n) → ((k : ℕ) → 0 < tally k n → IsCalmAt ns k) → Standing ns s b p n → IsNormal (erase n)
 normal-from_calm ns s b p End none full calm h = tt
 normal-from_calm ns s b p (Free j e rest) none full calm h =
     grind (
       arith,
-      false-from (begins_free (erase rest)),
+      false_from_ne_true (begins_free (erase rest)),
       same-self j,
       begins-kind ns s j (p + e) rest h.2,
       normal-from_calm ns s j (p + e) rest (omega arith) full,

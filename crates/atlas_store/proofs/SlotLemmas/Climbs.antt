@@ -11,6 +11,7 @@ use Rattle.atlas_model.specs.Boxes.{Box, IsInside}
 use Rattle.atlas_model.specs.Pixels.{box_of, rectangle_of}
 use Rattle.atlas_model.specs.Trees.{IsCut}
 use Rattle.atlas_model.specs.Changes.{and_id}
+use Rattle.atlas_model.proofs.TreeLemmas.TreeRoom.{inside_trans}
 use Rattle.atlas_store.specs.Slots.{node_at, use_count}
 use Rattle.atlas_search.specs.Numbers.{no_slot}
 use Rattle.atlas_store.specs.Slots.Lists.{is_free}
@@ -99,9 +100,6 @@ pub record IsClimbing (ns : List Node) (old marks : List Bool) (leaf i : ℕ) : 
 
 inside-itself : (b : Box) → IsInside b b
 inside-itself b = (omega arith, omega arith, omega arith, omega arith)
-
-pub inside-on : (b c d : Box) → IsInside b c → IsInside c d → IsInside b d
-inside-on b c d x y = (omega arith, omega arith, omega arith, omega arith)
 
 module _ (ns : List Node) (old : List Bool) (leaf : ℕ) (short : length ns ≤ 16777216)
     (s : Sequence) (n : Numbered) (held : ℕ → Bool) (is : AreShownIn ns old held s n)
@@ -245,7 +243,7 @@ module _ (ns : List Node) (old : List Bool) (leaf : ℕ) (short : length ns ≤ 
             closed = shut some;
             above = λ nz. parent-closed ns s n short is.top is.stands o with_leaf parent parent used (shut some) nz apart f;
             shown = λ s2 n2 held2 x2 no2. climb-shown s2 n2 held2 x2 no2 np nn some was w;
-            around = λ s2 n2 t x2 c. inside-on _ _ _ (k.around s2 n2 t x2 c) (at-inside s2 n2 t x2 c some);
+            around = λ s2 n2 t x2 c. inside_trans _ _ _ (k.around s2 n2 t x2 c) (at-inside s2 n2 t x2 c some);
           } in
           subst (λ (i : ℕ). IsClimbing ns old (set marks at true) leaf i) to_at.1 up
         where

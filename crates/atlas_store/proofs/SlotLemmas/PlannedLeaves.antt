@@ -58,7 +58,7 @@ pub axis_of-flipped : (o : Orientation) → axis_of (flipped o) ≡ other (axis_
 axis_of-flipped o = grind arith
 
 -- The only member inside a member fills its box.
-box-inside : (s : Sequence) (i p e : ℕ) → member_box (inside s i p e) s.start s.width ≡ member_box s p e
+pub box-inside : (s : Sequence) (i p e : ℕ) → member_box (inside s i p e) s.start s.width ≡ member_box s p e
 box-inside s i p e = grind arith
 
 -- The extent that a member's box shows.

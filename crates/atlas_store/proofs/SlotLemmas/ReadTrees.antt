@@ -10,6 +10,7 @@ use Rattle.atlas_store.specs.declared.slots.NodeKind.TheVariants as kind
 use Rattle.atlas_store.specs.Slots.{axis_of, node_at, blank_node, use_count}
 use Rattle.atlas_search.specs.Numbers.{no_slot, same}
 use Rattle.atlas_model.specs.Trees.{Members, Tree}
+use Rattle.atlas_model.proofs.ListLemmas.Sums.{sums, sums-add, sums-none}
 use Rattle.atlas_store.specs.Slots.Numbered.{Numbered, tally, first_slot, erase, numbers, End, Free, Alloc, Seq}
 use Rattle.atlas_store.specs.Slots.Standing.{Sequence, Standing, Stands, inside, member_box}
 use Rattle.atlas_store.specs.Slots.Reading.{extent_of, begins_in, first_member_of, read, numbered_of, tree_of}
@@ -178,20 +179,8 @@ read-is (suc fuel) ns s b q (Seq j e inner rest) i u h f closed z once none st =
     rw (st, h.0.kind) (ap (λ v. Seq j v (read fuel ns (first_member_of ns j)) (read fuel ns (node_at ns j).next.number)) x ∙
     ap (λ v. Seq j e v (read fuel ns (node_at ns j).next.number)) m ∙ ap (Seq j e inner) r)
 
--- What a count of the slots below m adds up to.
-abbrev pub sums : (ℕ → ℕ) → ℕ → ℕ
-sums f zero = 0
-sums f (suc m) = f m + sums f m
-
-pub sums-add : (f g : ℕ → ℕ) (m : ℕ) → sums (λ i. f i + g i) m ≡ sums f m + sums g m
-sums-add f g zero = refl
-sums-add f g (suc m) = omega (arith, sums-add f g m)
-
-pub sums-none : (f : ℕ → ℕ) (m : ℕ) → ((i : ℕ) → i < m → f i ≡ 0) → sums f m ≡ 0
-sums-none f zero none = refl
-sums-none f (suc m) none = omega (arith, none m (omega arith), sums-none f m (λ i l. none i (omega arith)))
-
 pub sums-same : (j m : ℕ) → j < m → sums (λ i. same i j) m ≡ 1
+unfolding sums
 sums-same j zero l = absurd (omega arith)
 sums-same j (suc m) l =
     elim (cases_eq m j) [
@@ -210,6 +199,7 @@ abbrev pub tallies : ℕ → Numbered → ℕ
 tallies m n = sums (λ i. tally i n) m
 
 pub tallies-le : (m : ℕ) (n : Numbered) → ((k : ℕ) → tally k n ≤ 1) → tallies m n ≤ m
+unfolding sums
 tallies-le zero n once = omega arith
 tallies-le (suc m) n once = omega (arith, once m, tallies-le m n once)
 
@@ -295,6 +285,7 @@ tree_of-Stands ns s n short top h l = grind (arith, axis_of-Stands, members_of-S
 
 tallies-less : (m j : ℕ) (n less : Numbered) → ((x : ℕ) → tally x less + same x j ≡ tally x n)
     → tallies m less + sums (λ i. same i j) m ≡ tallies m n
+unfolding sums
 tallies-less zero j n less is = refl
 tallies-less (suc m) j n less is = omega (arith, is m, tallies-less m j n less is)
 

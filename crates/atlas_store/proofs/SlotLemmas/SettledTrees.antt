@@ -3,13 +3,12 @@ use Rattle.std.proofs.Common.{rules, ℕ, ◌+◌, ◌<◌, ◌≤◌, ◌≡◌
 use Rattle.atlas_store.specs.declared.slots.Node.{Node}
 use Rattle.atlas_store.specs.declared.slots.NodeKind.TheVariants as kind
 use Rattle.atlas_store.specs.Slots.{node_at, use_count}
-use Rattle.atlas_search.specs.Numbers.{no_slot, same}
+use Rattle.atlas_search.specs.Numbers.{no_slot}
 use Rattle.atlas_model.specs.Trees as tree
 use Rattle.atlas_model.specs.Trees.{IsNormal}
-use Rattle.atlas_store.specs.Slots.Numbered.{Numbered, tally, first_slot, numbers, erase, marked, joined, lifted, is_free_at, is_alloc_at}
+use Rattle.atlas_store.specs.Slots.Numbered.{Numbered, tally, first_slot, erase, marked, joined, lifted, is_free_at, is_alloc_at}
 use Rattle.atlas_store.specs.Slots.Numbered.{is_seq_at, End, Free, Alloc, Seq}
 use Rattle.atlas_store.specs.Slots.Standing.{Sequence, Standing, Stands, IsWhole, IsSlot}
-use Rattle.atlas_store.proofs.SlotLemmas.ReadTrees.{numbers-less}
 use Rattle.atlas_store.proofs.SlotLemmas.JoinWrites.{used-inside, none-unused, not-none}
 use Rattle.atlas_store.proofs.SlotLemmas.Frames.{same-self, same-ne, split_pos}
 use Rattle.atlas_store.proofs.SlotLemmas.MemberLinks.{next-in}
@@ -24,11 +23,6 @@ pub record IsSettlingTree (ns : List Node) (s : Sequence) (n : Numbered) (at : �
   pub full : NoneEmpty (erase n)
   pub free : (node_at ns at).kind ≡ kind.Free
   pub calm : IsCalmBut ns at
-
-pub fewer : (ns : List Node) (s : Sequence) (n less : Numbered) (j : ℕ) → Stands ns s n
-    → (node_at ns j).kind ≡ kind.Free → ((x : ℕ) → tally x less + same x j ≡ tally x n) → numbers less + 1 ≡ numbers n
-fewer ns s n less j h f is =
-    numbers-less (length ns) j n less (used-inside ns j (rw f (omega arith))) (λ x c. used-inside ns x (rw (← h.numbered x) c)) is
 
 -- An edit that leaves no sequence empty.
 abbrev IsFuller : (across : ℕ) → (old new : Numbered) → Type 0

@@ -15,7 +15,7 @@ use Rattle.atlas_store.proofs.SlotLemmas.Frames.{used-inside}
 use Rattle.atlas_store.proofs.SlotLemmas.Suffixes.{suffix-at}
 use Rattle.atlas_search.specs.Rectangles.{IsUnsigned}
 
-exact_of : (r : Rectangle) (b : Box) → r ≡ rectangle_of b → IsUnsigned r
+pub exact_of : (r : Rectangle) (b : Box) → r ≡ rectangle_of b → IsUnsigned r
 exact_of r b e = rw e refl
 
 first-exact : (ns : List Node) (i : ℕ) (s : Sequence) (b p : ℕ) (m : Numbered) → first_slot m ≡ i → 0 < tally i m

@@ -1,15 +1,11 @@
 -- Trees whose top sequence is extended: what the extents add up to, and which slot comes last.
 use Rattle.std.proofs.Common.{ℕ, ◌+◌, ◌<◌, ◌≤◌, ◌≡◌, refl, arith}
-use Rattle.atlas_model.specs.Boxes.{Axis, other}
 use Rattle.atlas_model.specs.Trees.{IsCut, total}
 use Rattle.atlas_store.specs.Slots.Numbered.{Numbered, erase, tally}
 use Rattle.atlas_search.specs.Numbers.{no_slot}
 use Rattle.atlas_store.specs.Slots.Growing.{last_slot, with_free_after, lengthened_by, stretched, appended}
 use Rattle.atlas_store.proofs.SlotLemmas.ReadTrees.{HasMember}
 use Rattle.atlas_store.proofs.SlotLemmas.Extensions.{extended-keeps, last-later}
-
-pub other-other : (a : Axis) → other (other a) ≡ a
-other-other a = grind arith
 
 -- The last member, if it is free, is longer.
 

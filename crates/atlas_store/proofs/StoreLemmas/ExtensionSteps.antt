@@ -11,6 +11,7 @@ use Rattle.atlas_model.specs.Pixels.{options_of, sides_of}
 use Rattle.atlas_model.specs.Trees.{IsCut, total}
 use Rattle.atlas_store.specs.Slots.{nodes, rings, node_at, use_count}
 use Rattle.atlas_search.specs.Numbers.{no_slot, occurs, same}
+use Rattle.atlas_search.proofs.SearchLemmas.Bests.{natural-most}
 use Rattle.atlas_store.specs.Slots.Numbered.{Numbered, erase, tally, End, Free}
 use Rattle.atlas_store.specs.Slots.Standing.{Sequence, Stands}
 use Rattle.atlas_store.specs.Slots.Links.{with_mark}
@@ -26,7 +27,6 @@ use Rattle.atlas_store.specs.Slots.Growing.{after_whole, after_append, after_nes
 use Rattle.atlas_store.proofs.SlotLemmas.Frames.{same-self, same-ne}
 use Rattle.atlas_store.proofs.StoreLemmas.FiledSlots.{with_mark-same, with_mark-other}
 use Rattle.atlas_store.proofs.StoreLemmas.TakenSlots.{AreFiled-moved, StaysOrIsOut}
-use Rattle.atlas_store.proofs.StoreLemmas.Sizes.{natural-fits}
 use Rattle.atlas_store.proofs.StoreLemmas.StoreTakes.{taken-once}
 use Rattle.atlas_store.proofs.StoreLemmas.StoreSteps.{AreSlots, over-shelf, long-over, moved-kept, use-kept}
 use Rattle.atlas_store.proofs.WalkLemmas.StoredAtlas.{nonempty-total}
@@ -62,8 +62,8 @@ held_anew claimed v new h s n detached long holds used top stands bounds =
 -- Each side of a size is what an `i32` holds.
 pub sides-fit : (size : Size) → FitsSigned w32 size.width → FitsSigned w32 size.height → (a : Axis)
     → side a (sides_of size) < 2 ^ 31
-sides-fit size wide high Horizontal = omega (arith, natural-fits size.width wide)
-sides-fit size wide high Vertical = omega (arith, natural-fits size.height high)
+sides-fit size wide high Horizontal = omega (arith, natural-most size.width wide)
+sides-fit size wide high Vertical = omega (arith, natural-most size.height high)
 
 -- A detached leaf changes, and stays in use.
 used-leaf : (old new : List Slot) (at : ℕ) (size : Size) (detached : ℕ → Bool) → IsLeafStretched old new at size

@@ -22,7 +22,7 @@ use Rattle.atlas_search.specs.Tables.{head_of, is_used_at}
 use Rattle.atlas_store.specs.Slots.Links.{IsFiledSlot, with_mark, with_count, unlisted, listed}
 use Rattle.atlas_search.proofs.Occurrences.{same-self, same-ne, ne-from_occurs, without-none, occurs-without}
 use Rattle.atlas_search.proofs.SearchLemmas.BandLaws.{list_of-most}
-use Rattle.atlas_store.proofs.StoreLemmas.LinkedLists.{IsLinked-kept, linked-inside, linked-some}
+use Rattle.atlas_store.proofs.StoreLemmas.LinkedLists.{IsLinked-kept, linked-some}
 use Rattle.atlas_store.proofs.StoreLemmas.Lines.{Line-kept, Line-inside}
 pub use Rattle.atlas_store.proofs.SlotLemmas.Frames.{past-unused, used-inside}
 
@@ -137,10 +137,6 @@ module _ (o : Options) (ns : List Node) (rs : List Ring) (heads : List Link) (un
   -- A detached slot stands in no list.
   pub detached-nowhere : (k i : ℕ) → k < 2704 → p.detached i ≡ true → occurs i (p.free_lists k) ≡ 0
   detached-nowhere k i l e = (f.free k l).each i ∙ unless-detached (p.detached i) _ e
-
-  -- What stands in a list is not detached.
-  pub listed-kept : (k i : ℕ) → k < 2704 → 0 < occurs i (p.free_lists k) → p.detached i ≡ false
-  listed-kept k i l h = grind (arith, detached-nowhere)
 
   -- An unused slot stands in no list.
   pub unused-nowhere : (k i : ℕ) → k < 2704 → use_count (node_at ns i).kind ≡ 0 → occurs i (p.free_lists k) ≡ 0
@@ -280,20 +276,6 @@ module _ {o : Options} {slots : List Slot} {heads : List Link} {i : ℕ} (k : Is
     (short : length slots < 2147483648) where
   same_count : length (rings slots) ≡ length slots
   same_count = length-map slots ring_of
-
-  pub few-rings : length (rings slots) < 2147483648
-  few-rings = omega (arith, same_count)
-
-  pub leaves-inside : i < length slots
-  leaves-inside =
-      let own = list_for o (node_at (nodes slots) i) in
-      let one = listed-one o (nodes slots) (rings slots) heads k.unused k.places k.filed i free k.kept in
-      omega (
-        arith,
-        same_count,
-        linked-inside (nodes slots) (rings slots) own (head_of heads own) (k.places.free_lists own)
-            ((k.filed.free own (list_of-most o (node_sides (node_at (nodes slots) i)))).links) i (omega (arith, one)),
-      )
 
 pub length-rings : (xs ys : List Slot) → length ys ≡ length xs → length (rings ys) ≡ length (rings xs)
 length-rings xs ys e = length-map ys _ ∙ e ∙ sym (length-map xs _)

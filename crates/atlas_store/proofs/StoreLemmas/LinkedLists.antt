@@ -81,13 +81,6 @@ IsLinked-kept ns ms rs ts k first xs l same areas h = (
           right = ap (λ (e : Item). e.right) now ∙ ap (λ (r : Ring). r.right.number) (same i listed) ∙ sym (ap (λ (e : Item). e.right) was);
         }
 
--- A slot that stands in a list is there.
-pub linked-inside : (ns : List Node) (rs : List Ring) (k : ℕ) (first : Link) (xs : List ℕ) → IsLinked ns rs k first xs → (i : ℕ)
-    → 0 < occurs i xs → i < length rs
-unfolding IsLinked
-linked-inside ns rs k first xs h i on =
-    omega (arith, heap-inside (entries ns rs) (tag_of k) first.number h.0 h.1 i (omega (arith, on, h.2 i)), entries-length ns rs)
-
 -- A list with a slot begins with one.
 pub linked-some : (ns : List Node) (rs : List Ring) (k : ℕ) (first : Link) (xs : List ℕ) → length rs ≤ no_slot
     → IsLinked ns rs k first xs → (i : ℕ) → 0 < occurs i xs → first.number ≢ no_slot

@@ -28,7 +28,7 @@ use Rattle.std.proofs.Common.{
   length,
   map,
 }
-use Rattle.std.proofs.lemmas.Bool.{cases_eq, ne_eqb, true≢false}
+use Rattle.std.proofs.lemmas.Bool.{cases_eq, true≢false, false_from_ne_true}
 use Rattle.std.proofs.lemmas.List.{length-map}
 use Rattle.atlas_model.specs.declared.options.AllocatorOptions.{AllocatorOptions}
 use Rattle.atlas_model.specs.Choice.{Options}
@@ -64,10 +64,11 @@ use Rattle.atlas_store.specs.Store.Restoring.{
   next_of,
 }
 use Rattle.atlas_store.proofs.SlotLemmas.Frames.{same-ne, used-inside}
-use Rattle.atlas_store.proofs.StoreLemmas.FiledSlots.{unless_detached, with_mark-other, with_mark-same}
+use Rattle.atlas_store.proofs.StoreLemmas.FiledSlots.{unless_detached, with_mark-other, with_mark-same, free_kind}
 use Rattle.atlas_store.proofs.StoreLemmas.LinkedLists.{linked-none}
 use Rattle.atlas_store.proofs.StoreLemmas.ListedSlots.{recent-none}
 use Rattle.atlas_store.proofs.StoreLemmas.TakenOnce.{only-takes}
+use Rattle.atlas_store.proofs.StoreLemmas.TakenSlots.{none-used}
 
 -- The nodes of slots that were made of nodes.
 pub made-nodes : (ns : List Node) → nodes (map made_slot ns) ≡ ns
@@ -90,9 +91,6 @@ made-line ns [] h = tt
 made-line ns (x ∷ xs) h =
     (omega (arith, made-length ns, h.0), ap (λ (l : Link). l.number) (made-right ns x h.0) ∙ h.1, made-line ns xs h.2)
 
-none_used : (heads : List Link) (k : ℕ) → is_used_at heads k ≡ false → (head_of heads k).number ≡ no_slot
-none_used heads k e = grind (arith, ne_eqb)
-
 -- Each free slot is detached, and no other.
 abbrev pub free_marks : List Node → ℕ → Bool
 free_marks ns i = is_free (node_at ns i).kind
@@ -108,12 +106,6 @@ nowhere o k n = nowhere_kind n.kind _
 
 free_true : (c : NodeKind) → c ≡ kind.Free → is_free c ≡ true
 free_true c e = rw e refl
-
-true_free : (c : NodeKind) → is_free c ≡ true → c ≡ kind.Free
-true_free kind.Container e = absurd (true≢false (sym e))
-true_free kind.Alloc e = absurd (true≢false (sym e))
-true_free kind.Free e = refl
-true_free kind.Unused e = absurd (true≢false (sym e))
 
 -- What the slots hold, before the first free one is listed.
 abbrev pub unlisted_holding : List Node → Sequence → Numbered → List ℕ → Holding
@@ -134,7 +126,7 @@ module _ (v : Shelf) (ns : List Node) (unused : Link) (options : AllocatorOption
   made_filed xs l =
       record {
         free = λ k below. record {
-          links = linked-none ns (rings (map made_slot ns)) k (head_of v.heads k) (none_used v.heads k (made.lists k));
+          links = linked-none ns (rings (map made_slot ns)) k (head_of v.heads k) (none-used v.heads k (made.lists k));
           each = λ i. sym (nowhere (options_of v.options) k (node_at ns i));
         };
         line = made-line ns xs l.line;
@@ -167,7 +159,7 @@ module _ (v : Shelf) (ns : List Node) (unused : Link) (options : AllocatorOption
         holds = made_holds s n xs t l;
         free = λ k _ e. free_true (node_at ns k).kind (ap (λ x. (node_at x k).kind) (sym same) ∙ e);
         from = λ k e. omega arith;
-        only = λ k e. ap (λ x. (node_at x k).kind) same ∙ true_free (node_at ns k).kind e;
+        only = λ k e. ap (λ x. (node_at x k).kind) same ∙ free_kind (node_at ns k).kind e;
       }
 
 -- One slot more is in its list.
@@ -211,14 +203,10 @@ listed-over i v h u never =
 
 -- Past the last slot all are in their lists.
 pub listed-all : (i : ℕ) (v : Shelf) (h : Holding) → IsListedFrom i v h → length v.slots ≤ i → IsDetachedOnly [] h
-listed-all i v h u l = λ k _. not_true (h.detached k) (λ e.
+listed-all i v h u l = λ k _. false_from_ne_true (h.detached k) (λ e.
     let f : (node_in v k).kind ≡ kind.Free = u.only k e in
     let inside : k < length (nodes v.slots) = used-inside (nodes v.slots) k (rw f (omega arith)) in
     absurd (omega (arith, inside, u.from k e, length-map v.slots node_of)))
-  where
-    not_true : (b : Bool) → (b ≡ true → ⊥) → b ≡ false
-    not_true true never = absurd (never refl)
-    not_true false never = refl
 
 -- The free slots before the i-th are in their lists.
 pub record IsListing {A : Type 0} (first now : Store A) (i : ℕ) : Type 0 where
@@ -278,7 +266,7 @@ line_next ns rs (x ∷ xs) h g i l = elim (cases_eq i x) [
   | inr ne ↦ line_next ns rs xs h.2 g.2 i (omega (arith, same-ne i x ne))
 ]
 
-link_same : (a b : Link) → a.number ≡ b.number → a ≡ b
+pub link_same : (a b : Link) → a.number ≡ b.number → a ≡ b
 link_same a b e = ap (λ n. record { number = n }) e
 
 next_by : (c : NodeKind) (s : Slot) → (c ≡ kind.Unused → s.right ≡ s.next) → next_of c s ≡ s.next

@@ -20,10 +20,11 @@ use Rattle.atlas_store.specs.Store.Starts.{one_free_slot, detached_holding, star
 use Rattle.atlas_store.proofs.SlotLemmas.Frames.{same-self, same-ne}
 use Rattle.atlas_store.proofs.SlotLemmas.ReadTrees.{tree_of-Stands}
 use Rattle.atlas_model.proofs.StepLemmas.SoundSteps.{fresh_well_formed, fresh_normal}
+use Rattle.atlas_model.proofs.StepLemmas.CallerGrants.{whole_side}
 use Rattle.atlas_store.proofs.StoreLemmas.ListedSlots.{recent-none}
 use Rattle.atlas_store.proofs.StoreLemmas.TakenSlots.{AreFiled-one}
 use Rattle.atlas_store.proofs.WalkLemmas.StoredAtlas.{nodes-below}
-use Rattle.atlas_store.proofs.StoreLemmas.Sizes.{side_is, size_is}
+use Rattle.atlas_store.proofs.StoreLemmas.Sizes.{size_is}
 
 pub record IsStart (v : Shelf) (size : Size) : Type 0 where
   pub slots : v.slots ≡ one_free_slot size ∷ []
@@ -35,7 +36,7 @@ pub record IsStart (v : Shelf) (size : Size) : Type 0 where
 -- The rectangle of the whole atlas.
 whole_area : (size : Size) → IsPositive (sides_of size)
     → (one_free_slot size).area ≡ rectangle_of (member_box (detached_holding (sides_of size)).sequence 0 (sides_of size).height)
-whole_area size h = grind (arith, side_is)
+whole_area size h = grind (arith, whole_side)
 
 whole_stands : (size : Size) → IsPositive (sides_of size)
     → Stands (nodes (one_free_slot size ∷ [])) (detached_holding (sides_of size)).sequence (detached_holding (sides_of size)).tree

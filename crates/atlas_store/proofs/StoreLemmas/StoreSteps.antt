@@ -263,11 +263,6 @@ lifted-holds v mid new unused i c long w back h leaf =
     })
     (w.tree h.sequence h.tree leaf.holds.top leaf.holds.stands) (recut-lifted i h.sequence.width h.tree)
 
--- A fact of a node of a shelf is one of the slots that a call was given.
-pub node-before : (P : Node → Type 0) (v : Shelf) (old : List Slot) (i : ℕ) → old ≡ v.slots → P (node_in v i)
-    → P (node_at (nodes old) i)
-node-before P v old i e p = let Q : List Slot → Type 0 = λ slots. P (node_at (nodes slots) i) in subst Q (sym e) p
-
 -- The tree stays where a slot that isn't used changes, and stays unused.
 pub stands-taken : (ns ms : List Node) (i : ℕ) (s : Sequence) (n : Numbered) → (node_at ns i).kind ≡ kind.Unused
     → (node_at ms i).kind ≡ kind.Unused

@@ -288,7 +288,7 @@ given-by o old new heads unused at ring li er en es p f h =
 abbrev pub one_detached : Places
 one_detached = record { unused_list = []; free_lists = λ _. []; claimed = λ _. 0; detached = with_mark (λ _. false) 0 true }
 
-none-used : (heads : List Link) (k : ℕ) → is_used_at heads k ≡ false → (head_of heads k).number ≡ no_slot
+pub none-used : (heads : List Link) (k : ℕ) → is_used_at heads k ≡ false → (head_of heads k).number ≡ no_slot
 none-used heads k e = grind (arith, ne_eqb)
 
 -- One free slot, which is detached: the lists are empty.

@@ -1,5 +1,5 @@
 -- How many slots are unused.
-use Rattle.std.proofs.Common.{ℕ, zero, suc, ◌+◌, ◌<◌, ◌≤◌, ◌≡◌, List, [], ◌∷◌, length, refl, arith}
+use Rattle.std.proofs.Common.{ℕ, ◌+◌, ◌<◌, ◌≤◌, ◌≡◌, List, [], ◌∷◌, length, refl, arith}
 use Rattle.std.proofs.lemmas.List.{length-map}
 use Rattle.atlas_store.specs.declared.slots.Ring.{Ring}
 use Rattle.atlas_store.specs.Slots.{nodes, rings}
@@ -8,11 +8,8 @@ use Rattle.atlas_search.specs.Numbers.{same, occurs}
 use Rattle.atlas_store.specs.Slots.Lists.{Line}
 use Rattle.atlas_store.specs.Stored.{Shelf, Holding, Holds}
 use Rattle.atlas_store.proofs.SlotLemmas.JoinWrites.{used-inside}
-use Rattle.atlas_store.proofs.SlotLemmas.ReadTrees.{sums, sums-add, sums-none, sums-same, tallies-numbers}
-
-sums-all : (f : ℕ → ℕ) (m : ℕ) → ((i : ℕ) → i < m → f i ≡ 1) → sums f m ≡ m
-sums-all f zero one = refl
-sums-all f (suc m) one = omega (arith, one m (omega arith), sums-all f m (λ i l. one i (omega arith)))
+use Rattle.atlas_store.proofs.SlotLemmas.ReadTrees.{sums-same, tallies-numbers}
+use Rattle.atlas_model.proofs.ListLemmas.Sums.{sums, sums-add, sums-none, sums-all}
 
 sums-occurs : (rs : List Ring) (m : ℕ) (xs : List ℕ) → length rs ≤ m → Line rs xs
     → sums (λ i. occurs i xs) m ≡ length xs

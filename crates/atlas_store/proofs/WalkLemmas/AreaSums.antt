@@ -26,7 +26,7 @@ use Rattle.atlas_store.specs.declared.slots.Slot.{Slot}
 use denote.Enum.Bare.{sameb}
 use Rattle.atlas_store.specs.declared.slots.NodeKind.TheVariants as kind
 use Rattle.atlas_model.proofs.TreeLemmas.BoxLists.{areas_of_boxes}
-use Rattle.atlas_model.proofs.ListLemmas.CountSums.{sum_by-counts}
+use Rattle.atlas_model.proofs.ListLemmas.CountSums.{sum_by-counts, sum_by-map}
 use Rattle.atlas_store.proofs.WalkLemmas.StoredAtlas.{live-IsAtlas, free-IsAtlas, tree_of-IsAtlas}
 use Rattle.atlas_store.proofs.WalkLemmas.WalkSteps.{not_alloc, free-next, free-pass}
 
@@ -92,10 +92,6 @@ module _ (L : List Node → List Rectangle) (xs : List Slot) (i : ℕ) (past : I
   past-sum sum next all so_far is = omega (arith, ap area_sum past.list)
 
 -- All slots.
-
-sum_by-map : {X Y : Type 0} (f : Y → ℕ) (g : X → Y) (xs : List X) → sum_by f (map g xs) ≡ sum_by (λ x. f (g x)) xs
-sum_by-map f g [] = refl
-sum_by-map f g (x ∷ xs) = omega (arith, sum_by-cons f (g x) (map g xs), sum_by-cons (λ x. f (g x)) x xs, sum_by-map f g xs)
 
 abbrev grant_area : Grant → ℕ
 grant_area g = area g.box

@@ -1,7 +1,7 @@
 -- Hiding the slots of ids, and showing them again.
-use Rattle.std.proofs.Common.{ℕ, ◌+◌, ◌/◌, ◌%◌, ◌^◌, ◌<◌, ◌≡◌, ◌≢◌, ◌↔◌, ◌&&◌, ◌==◌, ◌||◌, Bool, true, false, List, []}
+use Rattle.std.proofs.Common.{ℕ, ◌+◌, ◌/◌, ◌%◌, ◌^◌, ◌<◌, ◌≡◌, ◌≢◌, ◌↔◌, ◌&&◌, ◌==◌, true, false, List, []}
 use Rattle.std.proofs.Common.{◌∷◌, ◌++◌, length, take, drop, set, get_or, refl, sym, ap, subst, ◌∙◌, arith}
-use Rattle.std.proofs.lemmas.Bool.{ne_eqb, eqb-false, true≢false}
+use Rattle.std.proofs.lemmas.Bool.{ne_eqb, eqb-false, true≢false, or_parts, or_from}
 use Rattle.std.proofs.lemmas.List.{take_more, take_all, take-append-drop, get_or-set_same, get_or-set_other, length-set}
 use Rattle.std.proofs.lemmas.List.{set-set, set-get_or}
 use Rattle.atlas_store.specs.Batches.{AreNamedOnce, hidden, AreHidable}
@@ -102,12 +102,6 @@ shown-more ns now new ids k id at l is slot e h w =
     w ∙ ap (λ v. with_kind now v kind.Alloc) slot ∙ ap (λ v. with_kind v (id % 2 ^ 24) kind.Alloc) last ∙
     with_kind-back (hidden ns (take k ids)) (id % 2 ^ 24) was.kind
 
-or-false : (a b : Bool) → a ≡ false → b ≡ false → (a || b) ≡ false
-or-false a b ea eb = rw (ea, eb) refl
-
-pub or-parts : (a b : Bool) → (a || b) ≡ false → (a ≡ false) × (b ≡ false)
-or-parts a b h = grind arith
-
 -- Hiding a slot takes its id from those that name one, and no other.
 module _ (ns : List Node) (id : ℕ) where
   elsewhere : (k : ℕ) → (k ≡ id % 2 ^ 24 → ⊥) → node_at (with_kind ns (id % 2 ^ 24) kind.Unused) k ≡ node_at ns k
@@ -158,13 +152,13 @@ module _ (ns : List Node) (id : ℕ) where
   named-weaker (x ∷ xs) h =
       let w = weaker x h.0 in
       let rest = named-weaker xs h.2 in
-      ((w.0, h.1, rest.0), or-false (only x id) (is_among xs id) (ne_eqb id x (λ e. w.1 (sym e))) rest.1)
+      ((w.0, h.1, rest.0), or_from (only x id) (is_among xs id) (ne_eqb id x (λ e. w.1 (sym e))) rest.1)
 
   named-stronger : (xs : List ℕ) → is_named ns id ≡ true → AreNamedOnce ns xs → is_among xs id ≡ false
       → AreNamedOnce (with_kind ns (id % 2 ^ 24) kind.Unused) xs
   named-stronger [] named h none = tt
   named-stronger (x ∷ xs) named h none =
-      let parts = or-parts (only x id) (is_among xs id) none in
+      let parts = or_parts (only x id) (is_among xs id) none in
       (stronger x named h.0 (λ e. eqb-false id x parts.0 (sym e)), h.1, named-stronger xs named h.2 parts.1)
 
 hidable-named : (ns : List Node) (xs : List ℕ) → AreHidable ns xs → AreNamedOnce ns xs

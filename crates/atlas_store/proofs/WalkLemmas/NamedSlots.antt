@@ -21,6 +21,7 @@ use Rattle.std.specs.Prelude.{find}
 use Rattle.atlas_store.specs.declared.slots.NodeKind.TheVariants as kind
 use Rattle.atlas_model.proofs.TreeLemmas.TreeBasics.{one_if, same_box-true, same_box-itself}
 use Rattle.atlas_model.proofs.ListLemmas.ListCounts.{count_by-cons}
+use Rattle.atlas_model.proofs.ListLemmas.CallerLemmas.{uncounted-find}
 use Rattle.atlas_store.proofs.SlotLemmas.JoinWrites.{used-inside}
 use Rattle.atlas_store.proofs.SlotLemmas.SlotAreas.{Stands-exact}
 use Rattle.atlas_store.proofs.SlotLemmas.SlotSums.{slot_sum}
@@ -28,10 +29,6 @@ use Rattle.atlas_store.proofs.SlotLemmas.LeafCounts.{alloc_weight, count-allocat
 use Rattle.atlas_store.proofs.WalkLemmas.StoredAtlas.{live-IsAtlas}
 
 module _ {X : Type 0} where
-  find-none : (p : X → Bool) (xs : List X) → find p xs ≡ None → count_by p xs ≡ 0
-  find-none p [] h = refl
-  find-none p (x ∷ xs) h = grind (arith, find-none p xs)
-
   -- What is found passes, and counts for each weaker test.
   find-some : (p q : X → Bool) (xs : List X) (y : X) → find p xs ≡ Some y → (p y ≡ true → q y ≡ true)
       → (p y ≡ true) × (1 ≤ count_by q xs)
@@ -140,7 +137,7 @@ module _ (v : Stored) (a : IsAtlas v) (id : ℕ) where
       → option_map rectangle_of (option_map (λ (g : Grant). g.box) o) ≡ named_area (nodes v.shelf.slots) id
   by_found None e =
       let ns = nodes v.shelf.slots in
-      let no_name : is_named ns id ≡ false = named-false ns id (sym (counted (has_grant_id id)) ∙ find-none (has_grant_id id) _ e) in
+      let no_name : is_named ns id ≡ false = named-false ns id (sym (counted (has_grant_id id)) ∙ uncounted-find (has_grant_id id) _ e) in
       sym (ap (λ b. cond b (Some (node_at ns (id % 2 ^ 24)).area) None) no_name)
   by_found (Some x) e =
       let ns = nodes v.shelf.slots in

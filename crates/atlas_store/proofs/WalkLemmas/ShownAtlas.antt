@@ -10,7 +10,7 @@ use Rattle.atlas_model.specs.Trees.{IsCut, IsNormal, is_idle, free_boxes}
 use Rattle.atlas_model.proofs.TreeLemmas.TreeBasics.{free_among}
 use Rattle.atlas_search.specs.Numbers.{no_slot}
 use Rattle.atlas_store.specs.declared.slots.Node.{Node}
-use Rattle.atlas_store.specs.Slots.{nodes, node_at}
+use Rattle.atlas_store.specs.Slots.{node_at}
 use Rattle.atlas_store.specs.Slots.Lists.{is_free}
 use Rattle.atlas_store.specs.Slots.Numbered.{Numbered, erase, End, Free, Alloc, Seq}
 use Rattle.atlas_store.specs.Slots.Standing.{Sequence, Standing, inside}
@@ -18,7 +18,7 @@ use Rattle.atlas_store.specs.Slots.Rehearsing.{is_open, all_open, Shows, IsRunIn
 use Rattle.atlas_store.specs.Stored.{Stored, IsAtlas, state_of}
 use Rattle.atlas_store.proofs.SlotLemmas.OpenMembers.{or_false}
 use Rattle.atlas_store.proofs.SlotLemmas.OpenRuns.{free_from, opened-marked, run-free}
-use Rattle.atlas_store.proofs.WalkLemmas.StoredAtlas.{origin-spot, members-IsAtlas, tree_of-IsAtlas}
+use Rattle.atlas_store.proofs.WalkLemmas.StoredAtlas.{origin-spot, tree_of-IsAtlas}
 
 -- A run of open members is a free box of the tree that is left.
 pub run-released : (o set : ℕ → Bool) (box : Box) (size : Sides) (s : Sequence) (n : Numbered) → s.start ≡ 0
@@ -73,10 +73,3 @@ pub shows-none : (ns : List Node) (marks : List Bool) (s : Sequence) (b p : ℕ)
     → Shows (is_open ns marks) (λ k. false) n
 shows-none ns marks s b p n unmarked h normal =
     shows-free ns (is_open ns marks) (λ k. or_false _ _ (unmarked k)) s b p n h normal
-
-pub shows-none_atlas : (v : Stored) (a : IsAtlas v) (marks : List Bool)
-    → ((k : ℕ) → slice_index_or marks k false ≡ false)
-    → Shows (is_open (nodes v.shelf.slots) marks) (λ k. false) a.holding.tree
-shows-none_atlas v a marks unmarked =
-    let normal : IsNormal (erase a.holding.tree) = subst IsNormal (members-IsAtlas v a) a.sound.normal in
-    shows-none (nodes v.shelf.slots) marks a.holding.sequence no_slot 0 a.holding.tree unmarked a.holds.stands.standing normal

@@ -91,7 +91,7 @@ fn cut_leaf(
     first
 }
 
-// The same with a leaf that is alone in the container of slot `at`, and fills it; slot `front` was unused.
+// A leaf that is alone in the container of slot `at`, and fills it, is cut so; slot `front` was unused.
 #[inline(always)]
 fn cut_inside(
     slots: &mut [Slot],

@@ -1,22 +1,16 @@
 -- How the free slot that a request takes is granted.
-use Rattle.std.proofs.Common.{ℕ, ◌<◌, ◌≤◌, ◌≡◌, ◌≢◌, List, length, true, false, refl, sym, ap, subst, ◌∙◌, arith}
+use Rattle.std.proofs.Common.{ℕ, ◌<◌, ◌≡◌, List, length, true, false, refl, ap, ◌∙◌, arith}
 use Rattle.std.proofs.lemmas.List.{length-map}
 use Rattle.atlas_store.specs.declared.store.Store.{Store}
-use Rattle.atlas_store.specs.declared.slots.Slot.{Slot}
 use Rattle.atlas_store.specs.declared.slots.Node.{Node}
-use Rattle.atlas_store.specs.declared.slots.NodeKind.TheVariants as kind
 use Rattle.atlas_search.specs.declared.best.Found.{Found}
 use Rattle.atlas_store.specs.declared.slots.placing.Plan.{Plan}
 use Rattle.atlas_model.specs.declared.allocation.Allocation.{Allocation}
-use Rattle.atlas_model.specs.declared.geometry.Rectangle.{Rectangle}
-use Rattle.atlas_model.specs.Boxes.{Sides, Box, origin, box_sides, Fits}
-use Rattle.atlas_model.specs.Pixels.{box_of, rectangle_of, options_of}
-use Rattle.atlas_model.specs.Choice.{IsPick}
-use Rattle.atlas_model.specs.Trees.{ungranted, leaves}
-use Rattle.atlas_store.specs.Slots.{nodes, node_at, node_of}
-use Rattle.atlas_store.specs.Slots.Numbered.{erase, id_of}
-use Rattle.atlas_store.specs.Slots.Picks.{AreFreeBoxes, IsFreeSlot, IsSearchable}
-use Rattle.atlas_store.specs.Stored.{Shelf, Holding, Holds, places_of}
+use Rattle.atlas_model.specs.Boxes.{Sides, box_sides, Fits}
+use Rattle.atlas_model.specs.Pixels.{box_of, rectangle_of}
+use Rattle.atlas_store.specs.Slots.{nodes, node_of}
+use Rattle.atlas_store.specs.Slots.Numbered.{id_of}
+use Rattle.atlas_store.specs.Stored.{Shelf, Holding, Holds}
 use Rattle.atlas_store.specs.Store.Holdings.{shelf_of, node_in, with_detached, with_free_lists}
 use Rattle.atlas_tree.specs.Plans.Planning.{IsPlanReady, IsPlanDone, IsPlanned}
 use Rattle.atlas_store.specs.Store.StoreCalls.{CanCarryOut, UnlistsLeaf}

@@ -2,7 +2,7 @@
 use Rattle.std.proofs.Common.{ℕ, ℤ, pos, negsuc, ◌+◌, ◌<◌, ◌≤◌, ◌≤ℤ◌, ◌<ℤ◌, ◌-ℤ◌, ◌≡◌, ◌&&◌, Bool, true, false, not, List, [], ◌∷◌}
 use Rattle.std.proofs.Common.{refl, sym, ap, ◌∙◌, inl, inr, arith, length, map, get_or, int_le, int_lt}
 use Rattle.std.proofs.lemmas.Int.{ints}
-use Rattle.std.proofs.lemmas.Bool.{and_from, and_parts, cases_lt, leb-true, ltb-true, true≢false}
+use Rattle.std.proofs.lemmas.Bool.{and_from, and_parts, cases_lt, leb-true, ltb-true, true≢false, false_from_ne_true}
 use Rattle.std.specs.List.{count_by, filter}
 use Rattle.atlas_model.specs.declared.geometry.Rectangle.{Rectangle}
 use Rattle.atlas_model.specs.Boxes.{covers}
@@ -12,6 +12,7 @@ use Rattle.guillotiere.proofs.SimpleLemmas.ApartLists.{AreBelow, apart-list, cou
 use Rattle.atlas_model.proofs.ListLemmas.ListCounts.{count_by-cons}
 use Rattle.atlas_model.proofs.TreeLemmas.TreeBasics.{one_if}
 use Rattle.std.proofs.lemmas.List.Sums.{count_by-le-length}
+use Rattle.atlas_search.proofs.SearchLemmas.BandLaws.{natural_mono}
 
 -- What a box that covers a unit square says.
 pub record Covers (x y : ℕ) (r : Rectangle) : Type 0 where
@@ -26,22 +27,13 @@ cover x y r = covers x y (box_of r)
 pub covers_parts : (x y : ℕ) (r : Rectangle) → cover x y r ≡ true → Covers x y r
 covers_parts x y r e = grind (arith, and_parts, leb-true, ltb-true)
 
-pub natural_rises : (a b : ℤ) → a ≤ℤ b → natural a ≤ natural b
-natural_rises (pos a) (pos b) h = omega (arith, ints, h)
-natural_rises (pos a) (negsuc b) h = absurd (omega (arith, ints, h))
-natural_rises (negsuc a) b h = omega arith
-
-false_from : (b : Bool) → (b ≡ true → ⊥) → b ≡ false
-false_from true never = absurd (never refl)
-false_from false never = refl
-
 -- Boxes that are stacked: of two of which one goes through the slab the second isn't covered where the first is.
 stacked_below : (low high : ℤ) (x y : ℕ) (rs : List Rectangle) → AreStacked low high rs
     → AreBelow (cover x y) (is_full low high) rs
-stacked_below low high x y rs h = λ i j d l m f c. false_from _ (λ e.
+stacked_below low high x y rs h = λ i j d l m f c. false_from_ne_true _ (λ e.
     let a = covers_parts x y (get_or rs i d) c in
     let b = covers_parts x y (get_or rs j d) e in
-    let under = natural_rises _ _ (h i j d l m f) in
+    let under = natural_mono _ _ (h i j d l m f) in
     absurd (omega (arith, a.bottom, b.top, under)))
 
 pub count_map : (x y : ℕ) (rs : List Rectangle) → count_by (covers x y) (map box_of rs) ≡ count_by (cover x y) rs

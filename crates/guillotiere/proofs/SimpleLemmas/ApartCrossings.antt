@@ -22,7 +22,7 @@ count_one p [] i d l e = absurd (omega (arith, l))
 count_one p (x ∷ xs) zero d l e = let here : p x ≡ true = e in omega (arith, count_by-cons p x xs, ap one_if here)
 count_one p (x ∷ xs) (suc i) d l e = omega (arith, count_by-cons p x xs, count_one p xs i d (omega (arith, l)) e)
 
-count_two : {X : Type 0} (p : X → Bool) (xs : List X) (i j : ℕ) (d : X) → i < j → j < length xs → p (get_or xs i d) ≡ true
+pub count_two : {X : Type 0} (p : X → Bool) (xs : List X) (i j : ℕ) (d : X) → i < j → j < length xs → p (get_or xs i d) ≡ true
     → p (get_or xs j d) ≡ true → 2 ≤ count_by p xs
 count_two p [] i j d l m e f = absurd (omega (arith, m))
 count_two p (x ∷ xs) i zero d l m e f = absurd (omega (arith, l))

@@ -2,13 +2,9 @@
 use Rattle.std.proofs.Common.{ℕ, ◌+◌, ◌<◌, ◌≤◌, ◌≡◌, ◌⊎◌, Bool, true, false, not, List, [], ◌∷◌, refl, sym, ap, ◌∙◌, inl, inr, arith, suc}
 use Rattle.std.proofs.Common.{length, get_or}
 use Rattle.std.specs.List.{count_by, filter}
+use Rattle.std.proofs.lemmas.Bool.{cases_Bool}
 use Rattle.atlas_model.proofs.ListLemmas.ListCounts.{count_by-cons}
 use Rattle.atlas_model.proofs.TreeLemmas.TreeBasics.{one_if}
-
--- True, or false.
-which : (b : Bool) → (b ≡ true) ⊎ (b ≡ false)
-which true = inl refl
-which false = inr refl
 
 module _ {X : Type 0} (cov full : X → Bool) where
   abbrev rest_of : List X → List X
@@ -37,13 +33,13 @@ module _ {X : Type 0} (cov full : X → Bool) where
   count_rest [] h = refl
   count_rest (x ∷ xs) h =
       let more = count_rest xs (λ k d l. h (suc k) d (omega arith)) in
-      elim (which (full x)) [
+      elim (cases_Bool (full x)) [
         | inl f ↦ uncovered x xs (h 0 x (omega arith) f) ∙ more ∙ ap (count_by cov) (sym (dropped x xs f))
         | inr f ↦ count_by-cons cov x xs ∙ ap (λ n. one_if (cov x) + n) more
             ∙ sym (count_by-cons cov x (rest_of xs)) ∙ ap (count_by cov) (sym (kept x xs f))
       ]
 
-  -- Of two of which one goes through, the second isn't covered where the first is.
+  -- Of two of cases_Bool one goes through, the second isn't covered where the first is.
   abbrev pub AreBelow : List X → Type 0
   AreBelow xs = (i j : ℕ) (d : X) → i < j → j < length xs
       → (full (get_or xs i d) ≡ true) ⊎ (full (get_or xs j d) ≡ true) → cov (get_or xs i d) ≡ true
@@ -54,15 +50,15 @@ module _ {X : Type 0} (cov full : X → Bool) where
 
   pub apart-list : (xs : List X) → AreBelow xs → count_by cov (rest_of xs) ≤ 1 → count_by cov xs ≤ 1
   apart-list [] h l = omega arith
-  apart-list (x ∷ xs) h l = elim (which (cov x)) [
+  apart-list (x ∷ xs) h l = elim (cases_Bool (cov x)) [
     | inr c ↦
-        let less : count_by cov (rest_of xs) ≤ 1 = elim (which (full x)) [
+        let less : count_by cov (rest_of xs) ≤ 1 = elim (cases_Bool (full x)) [
           | inl f ↦ omega (arith, l, ap (count_by cov) (dropped x xs f))
           | inr f ↦ omega (arith, l, ap (count_by cov) (kept x xs f), uncovered x (rest_of xs) c)
         ] in
         omega (arith, uncovered x xs c, apart-list xs (below_rest x xs h) less)
     | inl c ↦
-        let none : count_by cov xs ≡ 0 = elim (which (full x)) [
+        let none : count_by cov xs ≡ 0 = elim (cases_Bool (full x)) [
           | inl f ↦ count_none xs (λ k d m. h 0 (suc k) d (omega arith) (omega arith) (inl f) c)
           | inr f ↦
               let only = count_rest xs (λ k d m g. h 0 (suc k) d (omega arith) (omega arith) (inr g) c) in
@@ -77,10 +73,10 @@ module _ {X : Type 0} (cov full : X → Bool) where
   count-wider p q h [] = omega arith
   count-wider p q h (x ∷ xs) =
       let more = count-wider p q h xs in
-      elim (which (p x)) [
+      elim (cases_Bool (p x)) [
         | inr e ↦
             let left : filter p (x ∷ xs) ≡ filter p xs = rw e refl in
-            elim (which (q x)) [
+            elim (cases_Bool (q x)) [
               | inr f ↦
                   let right : filter q (x ∷ xs) ≡ filter q xs = rw f refl in
                   omega (arith, more, ap (count_by cov) left, ap (count_by cov) right)
@@ -90,7 +86,7 @@ module _ {X : Type 0} (cov full : X → Bool) where
             ]
         | inl e ↦
             let left : filter p (x ∷ xs) ≡ x ∷ filter p xs = rw e refl in
-            elim (which (cov x)) [
+            elim (cases_Bool (cov x)) [
               | inl c ↦
                   let right : filter q (x ∷ xs) ≡ x ∷ filter q xs = rw (h x c e) refl in
                   omega (
@@ -101,7 +97,7 @@ module _ {X : Type 0} (cov full : X → Bool) where
                     covered x (filter p xs) c,
                     covered x (filter q xs) c,
                   )
-              | inr c ↦ elim (which (q x)) [
+              | inr c ↦ elim (cases_Bool (q x)) [
                 | inr f ↦
                     let right : filter q (x ∷ xs) ≡ filter q xs = rw f refl in
                     omega (arith, more, ap (count_by cov) left, ap (count_by cov) right, uncovered x (filter p xs) c)

@@ -6,8 +6,9 @@ use Rattle.std.specs.List.{filter}
 use Rattle.atlas_model.specs.declared.geometry.Rectangle.{Rectangle}
 use Rattle.atlas_model.specs.Pixels.{box_of, natural}
 use Rattle.guillotiere.specs.Apart.{AreApartIn, AreFrom, AreHalves, AreStacked, IsMiddle, IsSlab, TellsApart, is_part}
-use Rattle.guillotiere.proofs.SimpleLemmas.ApartBoxes.{apart-few, apart-halves, apart-one, natural_rises}
+use Rattle.guillotiere.proofs.SimpleLemmas.ApartBoxes.{apart-few, apart-halves, apart-one}
 use Rattle.guillotiere.proofs.SimpleLemmas.ApartCrossings.{part-apart, part-from}
+use Rattle.atlas_search.proofs.SearchLemmas.BandLaws.{natural_mono}
 
 -- How many columns a slab has.
 unfoldable pub columns : (low high : ℤ) → ℕ
@@ -52,7 +53,7 @@ module _ (low high : ℤ) (rs : List Rectangle) where
     -- The first half isn't apart.
     pub tells-first : TellsApart low middle (filter (is_part low high low middle) rs) false → TellsApart low high rs false
     tells-first left = tells-stacked (λ from apart. left.crossed refl (part-from low high low middle rs from)
-        (part-apart low high low middle rs (omega arith) (natural_rises middle high (omega (arith, ints, m.before))) apart))
+        (part-apart low high low middle rs (omega arith) (natural_mono middle high (omega (arith, ints, m.before))) apart))
 
     -- The first half is apart.
     pub tells-second : AreStacked low high rs → TellsApart low middle (filter (is_part low high low middle) rs) true → (answer : Bool)
@@ -60,7 +61,7 @@ module _ (low high : ℤ) (rs : List Rectangle) where
     tells-second stacked left answer right = record {
       apart = λ e. apart-halves low high rs stacked middle (left.apart refl) (right.apart e);
       crossed = λ e from apart. right.crossed e (part-from low high middle high rs from)
-          (part-apart low high middle high rs (natural_rises low middle (omega (arith, ints, m.after))) (omega arith) apart);
+          (part-apart low high middle high rs (natural_mono low middle (omega (arith, ints, m.after))) (omega arith) apart);
     }
 
 -- The same for two parts.

@@ -2,13 +2,15 @@
 use Rattle.std.proofs.Common.{◌≡◌, ℕ, zero, suc, ◌+◌, ◌<◌, ◌≤◌, max, inl, inr, true, false, List, [], ◌∷◌, length, refl, sym, ap, subst}
 use Rattle.std.proofs.Common.{arith}
 use Rattle.std.proofs.Math.Nat.{max-eq_left}
-use Rattle.std.proofs.lemmas.Bool.{cases_eq, cases_Bool, cond-true, cond-false}
+use Rattle.std.proofs.lemmas.Bool.{cases_Bool, cond-true, cond-false}
 use Rattle.atlas_model.specs.Choice.{Options}
+use Rattle.atlas_model.proofs.ListLemmas.Sums.{sums, sums-add, sums-all, sums-none}
 use Rattle.atlas_search.specs.Items.{Item, item_at, item_box}
 use Rattle.atlas_search.specs.Numbers.{no_slot, occurs, same}
 use Rattle.guillotiere.specs.FreeBoxes.BoxShelves.{BoxShelf, AddsWhatIsUsed, AreKept, AreKeptWith, IsIdleFrom, free_count, free_item_boxes}
 use Rattle.atlas_search.proofs.Occurrences.{same-self, same-ne}
 use Rattle.guillotiere.proofs.SimpleLemmas.FreeItems.{are-free}
+use Rattle.atlas_store.proofs.SlotLemmas.ReadTrees.{sums-same}
 
 -- ---- the chain of unused entries
 
@@ -47,45 +49,10 @@ unused_list-idle claimed o v kept i some =
 
 -- ---- all entries
 
--- What a count of the entries below m adds up to.
-sums : (ℕ → ℕ) → ℕ → ℕ
-sums f zero = 0
-sums f (suc m) = f m + sums f m
-
 sums-front : (f : ℕ → ℕ) (m : ℕ) → sums f (suc m) ≡ f 0 + sums (λ i. f (suc i)) m
 unfolding sums
 sums-front f zero = refl
 sums-front f (suc m) = omega (arith, sums-front f m)
-
-sums-add : (f g : ℕ → ℕ) (m : ℕ) → sums (λ i. f i + g i) m ≡ sums f m + sums g m
-unfolding sums
-sums-add f g zero = refl
-sums-add f g (suc m) = omega (arith, sums-add f g m)
-
-sums-all : (f : ℕ → ℕ) (m : ℕ) → ((i : ℕ) → i < m → f i ≡ 1) → sums f m ≡ m
-unfolding sums
-sums-all f zero one = refl
-sums-all f (suc m) one = omega (arith, one m (omega arith), sums-all f m (λ i l. one i (omega arith)))
-
-sums-none : (f : ℕ → ℕ) (m : ℕ) → ((i : ℕ) → i < m → f i ≡ 0) → sums f m ≡ 0
-unfolding sums
-sums-none f zero none = refl
-sums-none f (suc m) none = omega (arith, none m (omega arith), sums-none f m (λ i l. none i (omega arith)))
-
-sums-same : (j m : ℕ) → j < m → sums (λ i. same i j) m ≡ 1
-unfolding sums
-sums-same j zero l = absurd (omega arith)
-sums-same j (suc m) l =
-    elim (cases_eq m j) [
-      | inl e ↦ omega (
-        arith,
-        same-self j,
-        ap (λ v. same v j) e,
-        sums-none (λ i. same i j) m
-            (λ i b. same-ne i j (λ q. absurd (omega arith))),
-      )
-      | inr ne ↦ omega (arith, same-ne m j ne, sums-same j m (omega arith))
-    ]
 
 sums-occurs : (es : List Item) (from m : ℕ) (xs : List ℕ) → length es ≤ m → IsIdleFrom es from xs
     → sums (λ i. occurs i xs) m ≡ length xs

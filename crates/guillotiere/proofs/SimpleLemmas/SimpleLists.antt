@@ -1,7 +1,6 @@
 -- The boxes of a simple allocator that grows or begins anew.
-use Rattle.std.proofs.Common.{◌≡◌, ℕ, ◌+◌, ◌<◌, Bool, false, cond, List, ◌∷◌, ◌++◌, map, drop, get_or, length, ap, ◌∙◌, subst, arith}
+use Rattle.std.proofs.Common.{◌≡◌, ℕ, ◌+◌, ◌<◌, cond, List, ◌∷◌, ◌++◌, map, drop, get_or, length, ap, ◌∙◌, subst, arith}
 use Rattle.std.specs.List.{All, count_by}
-use Rattle.std.proofs.lemmas.List.{at_drop_more}
 use Rattle.std.proofs.lemmas.List.Elements.{All-head, All-tail}
 use Rattle.std.proofs.lemmas.List.Sums.{sum_by-cons, sum_by-append}
 use Rattle.atlas_model.specs.declared.geometry.Size.{Size}
@@ -9,46 +8,26 @@ use Rattle.atlas_model.specs.declared.geometry.Rectangle.{Rectangle}
 use Rattle.atlas_search.specs.declared.cut.Rest.{Rest}
 use Rattle.atlas_store.specs.declared.slots.Slot.{Slot}
 use Rattle.atlas_store.specs.declared.slots.NodeKind.TheVariants as kind
-use Rattle.atlas_store.specs.contracts.slots.NodeKind.{the_type}
-use denote.Enum.Bare.{sameb}
-use Rattle.atlas_model.specs.Boxes.{Box, Sides, whole_box, Fits, IsPositive, AreSameBoxes}
+use Rattle.atlas_model.specs.Boxes.{Box, Sides, whole_box, IsPositive, AreSameBoxes}
 use Rattle.atlas_model.specs.Choice.{Options}
 use Rattle.atlas_model.specs.Pixels.{box_of, rectangle_of, sides_of}
-use Rattle.atlas_search.specs.Rectangles.{FitsInto, IsRestOf}
+use Rattle.atlas_search.specs.Rectangles.{IsRestOf}
 use Rattle.atlas_store.specs.Slots.{nodes, node_of}
-use Rattle.atlas_store.specs.Slots.Lists.{is_free}
 use Rattle.atlas_store.specs.Visits.{free_areas}
 use Rattle.atlas_model.specs.Simple.{kept_rest}
 use Rattle.guillotiere.specs.FreeBoxes.FreeLists.{kept_of}
 use Rattle.guillotiere.proofs.SimpleLemmas.CutBoxes.{count-kept}
-use Rattle.atlas_allocator.proofs.AtlasLemmas.UnsignedRectangles.{unsigned-fits}
-use Rattle.atlas_store.proofs.WalkLemmas.WalkSteps.{not_free}
+use Rattle.atlas_store.proofs.WalkLemmas.WalkSteps.{free-next}
 use Rattle.guillotiere.proofs.SimpleLemmas.StoredStates.{whole_rectangle, whole-box, whole-unsigned}
-use Rattle.atlas_model.proofs.SimpleLemmas.SimpleSteps.{whole-fits, whole-positive}
 
 -- The free slots, one after another.
-
-next-free : (xs : List Slot) (i : ℕ) (d : Slot) → i < length xs → (node_of (get_or xs i d)).kind ≡ kind.Free
-    → free_areas (nodes (drop i xs)) ≡ (node_of (get_or xs i d)).area ∷ free_areas (nodes (drop (i + 1) xs))
-next-free xs i d low is =
-    at_drop_more (λ ys. free_areas (nodes ys)) xs i d low
-    ∙ ap (λ k. cond (is_free k) ((node_of (get_or xs i d)).area ∷ free_areas (nodes (drop (i + 1) xs)))
-    (free_areas (nodes (drop (i + 1) xs)))) is
-
-pub passed-free : (xs : List Slot) (i : ℕ) (d : Slot) (b : Bool) → i < length xs
-    → b ≡ sameb the_type (node_of (get_or xs i d)).kind kind.Free → b ≡ false
-    → free_areas (nodes (drop i xs)) ≡ free_areas (nodes (drop (i + 1) xs))
-passed-free xs i d b low test is =
-    at_drop_more (λ ys. free_areas (nodes ys)) xs i d low
-    ∙ ap (λ t. cond t ((node_of (get_or xs i d)).area ∷ free_areas (nodes (drop (i + 1) xs))) (free_areas (nodes (drop (i + 1) xs))))
-    (not_free _ b test is)
 
 pub next-all : (P : Rectangle → Type 0) (xs : List Slot) (i : ℕ) (d : Slot) → i < length xs
     → (node_of (get_or xs i d)).kind ≡ kind.Free
     → All P (free_areas (nodes (drop i xs)))
     → P (node_of (get_or xs i d)).area × All P (free_areas (nodes (drop (i + 1) xs)))
 next-all P xs i d low is all =
-    let here = subst (All P) (next-free xs i d low is) all in (
+    let here = subst (All P) (free-next xs i d low is) all in (
       All-head P (node_of (get_or xs i d)).area (free_areas (nodes (drop (i + 1) xs))) here,
       All-tail P (node_of (get_or xs i d)).area (free_areas (nodes (drop (i + 1) xs))) here,
     )
@@ -63,7 +42,7 @@ next-boxes xs i d old new boxes low is before filed p =
     let rest = map box_of (free_areas (nodes (drop (i + 1) xs))) in
     let area = box_of (node_of (get_or xs i d)).area in
     let e : count_by p (map box_of (free_areas (nodes (drop i xs))) ++ old) ≡ count_by p ((area ∷ rest) ++ old) =
-    ap (λ l. count_by p (map box_of l ++ old)) (next-free xs i d low is) in
+    ap (λ l. count_by p (map box_of l ++ old)) (free-next xs i d low is) in
     omega (
       arith,
       before p,
@@ -98,8 +77,3 @@ rest-boxes o f r rest old split all is kept_split kept_leftover p = grind (arith
 pub whole-exact : (size : Size) → IsPositive (sides_of size)
     → whole_rectangle size ≡ rectangle_of (whole_box (sides_of size))
 whole-exact size positive = whole-unsigned size positive ∙ ap rectangle_of (whole-box size)
-
-pub whole-holds : (s n : Size) (r : Rectangle) → r ≡ whole_rectangle n → IsPositive (sides_of s)
-    → Fits (sides_of s) (sides_of n) → FitsInto s r
-whole-holds s n r e positive fits =
-    grind (arith, whole-positive, whole_rectangle, unsigned-fits, whole-unsigned, whole-box, whole-fits)

@@ -185,7 +185,7 @@ fn is_across(area: &Rectangle, size: Size) -> bool
     area.min.x >= 0 && area.min.x < area.max.x && area.max.x <= size.width
 }
 
-// The same from top to bottom.
+// Whether a box begins at the upper side of a size or later, has a height, and doesn't pass the lower side.
 fn is_along(area: &Rectangle, size: Size) -> bool
     ensures { IsTrue result ↔ LiesAlong area.now size }
 {

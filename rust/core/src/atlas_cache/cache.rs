@@ -57,7 +57,7 @@ impl<K: Copy + Eq + Hash, A: Allocator + Copy> TextureCache<K, DefaultHasher, A>
 }
 
 impl<K: Copy + Eq + Hash, S: BuildHasher, A: Allocator + Copy> TextureCache<K, S, A> {
-    /// The same, with a hasher for the keys.
+    /// No pages and no entries, with a hasher for the keys. Takes no memory. An error says what is wrong with the options.
     #[inline]
     pub fn with_hasher(alloc: A, options: CacheOptions, hasher: S) -> Result<Self, OptionsError> {
         options.check()?;

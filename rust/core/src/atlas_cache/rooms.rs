@@ -145,7 +145,7 @@ impl<A: Allocator + Copy> Rooms<A> {
         self.place_among(0, to, asked)
     }
 
-    // The same, where none but the pages from `from` on and before `to` can have room: only these are looked at.
+    // Grants a request as `place` does, where none but the pages from `from` on and before `to` can have room: only these are looked at.
     #[inline]
     pub(crate) fn place_among(
         &mut self,

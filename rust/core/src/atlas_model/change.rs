@@ -32,7 +32,7 @@ impl<A: Allocator + Copy> ChangeList<A> {
         }
     }
 
-    /// The same lists once more. `Memory` is the only error.
+    /// Lists with the same changes and failures. `Memory` is the only error.
     #[inline]
     pub fn clone(&self) -> Result<Self, AtlasError> {
         let alloc = *self.changes.allocator();

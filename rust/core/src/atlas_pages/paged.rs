@@ -127,7 +127,7 @@ impl<A: Allocator + Copy> PagedAtlas<A> {
         }
     }
 
-    // The same on a page that is added.
+    // Grants a request that no page has room for, on a page that is added; None if there are as many as there may be.
     #[inline]
     fn allocate_anew(&mut self, size: Size) -> Result<Option<PageAllocation>, AtlasError> {
         let page = self.pages.len();

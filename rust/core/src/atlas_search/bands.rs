@@ -145,7 +145,7 @@ impl Scale {
         }
     }
 
-    /// The same again.
+    /// A scale of these options too.
     #[inline]
     #[must_use]
     pub fn copy(&self) -> Scale {

@@ -1,6 +1,6 @@
 use Rattle.std.proofs.Common.{◌≡◌, ◌∙◌, ap, slice_get, Some}
 use Rattle.std.proofs.lemmas.Bool.{both_ways}
-use Rattle.atlas_cache.specs.Rooms.{page_sizes}
+use Rattle.guillotiere.specs.Pages.{page_sizes}
 use Rattle.atlas_cache.proofs.RoomLemmas.KeptPages.{size_read}
 use Rattle.atlas_cache.proofs.rooms.first_to_grow.Goals as goal
 use borrow.Author.Count.{below_more}

@@ -1,4 +1,5 @@
-use Rattle.atlas_cache.specs.Rooms.{page_sizes, AreLargestBelow}
+use Rattle.guillotiere.specs.Pages.{page_sizes}
+use Rattle.atlas_cache.specs.Rooms.{AreLargestBelow}
 use Rattle.atlas_cache.proofs.rooms.first_to_grow.Given as goal
 
 abbrev pub invariant-loop-page : goal.invariant-loop-page

@@ -1,13 +1,10 @@
-use Rattle.std.proofs.Common.{◌≡◌, ◌∙◌, ◌<◌, ℕ, List, arith, refl, sym, ◌≤◌}
-use Rattle.atlas_search.specs.Numbers.{occurs, without}
+use Rattle.std.proofs.Common.{◌≡◌, ◌∙◌, arith, refl, sym}
+use Rattle.atlas_search.specs.Numbers.{without}
 use Rattle.atlas_entries.specs.Rings.{next_at, no_entry}
 use Rattle.atlas_entries.proofs.RingLemmas.{at_once-here, at_once-there}
-use Rattle.atlas_search.proofs.Occurrences.{ne-from_occurs, occurs-without, same-self}
+use Rattle.atlas_search.proofs.Occurrences.{ne-from_occurs, gone-from}
 use Rattle.atlas_entries.proofs.SpareLemmas.{IsRing-relinked}
 use Rattle.atlas_entries.proofs.recency.give_back.Goals as goal
-
-gone-from : (i : ℕ) (xs : List ℕ) → 0 < occurs i xs → occurs i xs ≤ 1 → occurs i (without i xs) ≡ 0
-gone-from i xs l o = omega (arith, occurs-without i xs l i, same-self i, o)
 
 pub returns-clause-ring : goal.returns-clause-ring
 returns-clause-ring c = λ xs h l.

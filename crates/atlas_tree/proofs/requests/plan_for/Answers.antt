@@ -1,4 +1,4 @@
-use Rattle.std.proofs.Common.{◌≡◌, ◌<◌, rules, sym, subst}
+use Rattle.std.proofs.Common.{◌≡◌, ◌<◌, rules, subst}
 use Rattle.atlas_model.specs.Boxes.{Sides}
 use Rattle.atlas_model.specs.Boxes.Axis.{Horizontal}
 use Rattle.atlas_model.specs.Cuts.{cut}

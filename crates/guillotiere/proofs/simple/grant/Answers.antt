@@ -7,12 +7,13 @@ use Rattle.atlas_search.specs.Lookups.{AreFreeItems, IsStanding}
 use Rattle.atlas_model.specs.Pixels.{box_of, options_of, sides_of}
 use Rattle.atlas_model.specs.Simple.{kept_rest}
 use Rattle.guillotiere.proofs.SimpleLemmas.CutBoxes.{at_error, picked-exact}
-use Rattle.atlas_allocator.proofs.AtlasLemmas.UnsignedRectangles.{sides_of-size, unsigned-measurable, unsigned-fits, unsigned_of}
+use Rattle.atlas_allocator.proofs.AtlasLemmas.UnsignedRectangles.{sides_of-size, unsigned-measurable, unsigned-fits}
 use Rattle.atlas_allocator.proofs.AtlasLemmas.UnsignedRectangles.{size-positive}
 use Rattle.guillotiere.proofs.SimpleLemmas.EntryCounts.{used-free}
 use Rattle.guillotiere.proofs.SimpleLemmas.FreeItems.{are-free}
 use Rattle.guillotiere.proofs.SimpleLemmas.GrantedBoxes.{simply_grants}
 use Rattle.guillotiere.proofs.simple.grant.Goals as goal
+use Rattle.atlas_store.proofs.SlotLemmas.SlotAreas.{exact_of}
 
 pub granted-rectangle-requires-clause-measurable : goal.granted-rectangle-requires-clause-measurable
 granted-rectangle-requires-clause-measurable g c = grind (arith, picked-exact, unsigned-measurable)
@@ -100,7 +101,7 @@ returns-clause-unsigned g c =
     let found = c.in-Some-pick.found in
     let standing = subst (λ xs. IsStanding (map stored_item xs) found) c.deref.ensures.value c.in-Some-pick.ensures.standing in
     let exact = picked-exact o c.args.boxes.now.table.heads es found c.requires.listed standing in
-    unsigned_of c.granted-rectangle.result (box_at (box_of found.rectangle).min (sides_of c.in-Some.size))
+    exact_of c.granted-rectangle.result (box_at (box_of found.rectangle).min (sides_of c.in-Some.size))
     (c.granted-rectangle.ensures.boxes (box_of found.rectangle) exact.unsigned)
 
 pub returns-clause-step : goal.returns-clause-step

@@ -22,7 +22,7 @@ fn lost_in(free: &Rectangle, size: Size) -> u64 {
     area_of(free)
 }
 
-// The same of all free slots together.
+// The area of all free slots that these sides don't fit, together.
 #[inline]
 fn lost_sum(slots: &[Slot], size: Size) -> u64 {
     let mut sum = 0;
@@ -57,7 +57,7 @@ fn larger_of(held: Rectangle, free: Rectangle) -> Rectangle {
     free
 }
 
-// The same, or the second where there is no first.
+// That one of two free rectangles which precedes the other, or the second where there is no first.
 #[inline]
 fn larger(best: Option<Rectangle>, free: Rectangle) -> Rectangle {
     match best {

@@ -33,7 +33,7 @@ impl<K: Copy + Eq + Hash, S: BuildHasher, A: Allocator + Copy> TextureCache<K, S
         inserted
     }
 
-    // The same, but for the count of forced evictions.
+    // Inserts a key, and leaves the count of forced evictions as it is.
     #[inline]
     fn insert_uncounted(
         &mut self,

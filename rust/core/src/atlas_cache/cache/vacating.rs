@@ -64,7 +64,7 @@ fn first_vacancy<K: Copy + Eq + Hash, S: BuildHasher, A: Allocator + Copy>(
     None
 }
 
-// The same, with nothing shown before. An error is a refusal of memory for marks of slots.
+// What `first_vacancy` finds, where nothing was shown before. An error is a refusal of memory for marks of slots.
 #[inline]
 fn find_vacancy<K: Copy + Eq + Hash, S: BuildHasher, A: Allocator + Copy>(
     rooms: &Rooms<A>,

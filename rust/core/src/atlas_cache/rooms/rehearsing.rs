@@ -26,7 +26,7 @@ impl<A: Allocator + Copy> Rooms<A> {
         Ok(())
     }
 
-    /// The same on each page, which has marks of its own.
+    /// Nothing is shown on any page, each of which has marks of its own.
     #[inline]
     pub(crate) fn show_none_on_all(
         &self,

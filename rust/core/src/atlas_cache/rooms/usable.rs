@@ -39,7 +39,7 @@ fn unusable_of(free: &Rectangle, width: u64, height: u64) -> u64 {
     wide * high
 }
 
-// The same of several together.
+// The area of several free rectangles that one of these sides doesn't fit, together.
 #[inline]
 fn unusable_sum(free: &[Rectangle], width: u64, height: u64) -> u64 {
     let mut sum = 0;
@@ -49,7 +49,7 @@ fn unusable_sum(free: &[Rectangle], width: u64, height: u64) -> u64 {
     sum
 }
 
-// The same of a page.
+// The area of a page's free rectangles that one of these sides doesn't fit.
 #[inline]
 fn unusable_on<A: Allocator + Copy>(
     page: &AtlasAllocator<A>,

@@ -155,7 +155,7 @@ fn is_across(area: &Rectangle, size: Size) -> bool {
     area.min.x >= 0 && area.min.x < area.max.x && area.max.x <= size.width
 }
 
-// The same from top to bottom.
+// Whether a box begins at the upper side of a size or later, has a height, and doesn't pass the lower side.
 #[inline]
 fn is_along(area: &Rectangle, size: Size) -> bool {
     area.min.y >= 0 && area.min.y < area.max.y && area.max.y <= size.height

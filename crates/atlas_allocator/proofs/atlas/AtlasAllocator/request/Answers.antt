@@ -9,7 +9,6 @@ use Rattle.atlas_model.specs.Steps.AtlasReply.{Allocated}
 use Rattle.atlas_model.specs.declared.error.AtlasError.TheVariants.{Memory}
 use Rattle.atlas_store.specs.Stored.{state_of}
 use Rattle.atlas_store.proofs.WalkLemmas.StoredAtlas.{used-IsAtlas}
-use Rattle.atlas_store.proofs.StoreLemmas.Sizes.{natural-fits}
 use Rattle.atlas_allocator.proofs.AtlasLemmas.UnsignedRectangles.{sides_of-size, unsigned-measurable}
 use Rattle.atlas_allocator.proofs.AtlasLemmas.GrantedAtlas.{grant-done, some-grantable, no_room-unrounded, no_room-none, taken-inside}
 use Rattle.atlas_allocator.proofs.AtlasLemmas.GrantedAtlas.{taken-exact, taken-fits, refused-step}
@@ -17,12 +16,13 @@ use Rattle.atlas_store.proofs.StoreLemmas.TakenOnce.{first-once, once-first, onc
 use Rattle.atlas_allocator.proofs.AtlasLemmas.Reserves.{request-few, plan-few}
 use Rattle.atlas_model.proofs.StepLemmas.CallerGrants.{no_room_answer, refused_answer, request_granted}
 use Rattle.atlas_allocator.proofs.atlas.AtlasAllocator.request.Goals as goal
+use Rattle.atlas_search.proofs.SearchLemmas.Bests.{natural-most}
 
 pub returns-in_default-clause-step : goal.returns-in_default-clause-step
 returns-in_default-clause-step g c =
     rw (← c.self.view_is) (
       no_room-unrounded _ c.self.invariant (sides_of c.args.requested_size) c.in_default.ensures
-          (natural-fits c.self.inside.size.width (search rules)) (natural-fits c.self.inside.size.height (search rules)),
+          (natural-most c.self.inside.size.width (search rules)) (natural-most c.self.inside.size.height (search rules)),
       refl,
     )
 

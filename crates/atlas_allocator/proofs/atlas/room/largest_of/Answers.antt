@@ -5,9 +5,9 @@ use Rattle.atlas_store.specs.Walks.{IsShownArea}
 use Rattle.atlas_store.proofs.WalkLemmas.AreaSums.{free-more, free-past}
 use Rattle.atlas_allocator.specs.Room.{and_maybe, IsLargestOf}
 use Rattle.atlas_allocator.proofs.AtlasLemmas.FreeRoom.{shown-here, shown-more, some-more, none-more, best-past, best-before, largest-end}
-use Rattle.atlas_allocator.proofs.AtlasLemmas.FreeRoom.{free-end}
 use Rattle.atlas_allocator.proofs.atlas.room.largest_of.Goals as goal
 use Rattle.atlas_allocator.proofs.atlas.room.largest_of.Goals.{then-eq, else-eq}
+use Rattle.atlas_allocator.proofs.AtlasLemmas.SlotSteps.{free-past_all}
 
 pub larger-requires-clause-free : goal.larger-requires-clause-free
 larger-requires-clause-free c =
@@ -43,5 +43,5 @@ pub returns-clause-some : goal.returns-clause-some
 returns-clause-some c =
     largest-end c.loop-slot.best (free_areas (nodes c.args.slots.now))
     (λ f h. c.loop-slot.invariant.some f
-    (subst (λ l. IsLargestOf (and_maybe c.loop-slot.best l) f) (sym (free-end c.args.slots.now c.loop-slot.slot-index
+    (subst (λ l. IsLargestOf (and_maybe c.loop-slot.best l) f) (sym (free-past_all c.args.slots.now c.loop-slot.slot-index
     c.loop-slot-test.false)) h))

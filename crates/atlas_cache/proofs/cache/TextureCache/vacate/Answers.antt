@@ -10,9 +10,10 @@ use Rattle.atlas_cache.proofs.ClearedLemmas.{cleared_on-room}
 use Rattle.atlas_cache.proofs.ReadyLemmas.{full_stays, reserves_left}
 use Rattle.atlas_cache.proofs.RoomLemmas.KeptPages.{as_many}
 use Rattle.atlas_cache.proofs.StandLemmas.{none-shown, used-up}
-use Rattle.atlas_cache.proofs.VacatedLemmas.{entries-length, page-there, cleared-reserved, cleared-slots, falls-outside, on_err}
+use Rattle.atlas_cache.proofs.VacatedLemmas.{page-there, cleared-reserved, cleared-slots, falls-outside, on_err}
 use Rattle.atlas_cache.proofs.WalkLemmas.{entries-append}
 use Rattle.atlas_cache.proofs.cache.TextureCache.vacate.Goals as goal
+use Rattle.atlas_cache.proofs.ListLemmas.{length-listed}
 
 pub returns-in_default-clause-crowded : goal.returns-in_default-clause-crowded
 returns-in_default-clause-crowded g c = λ _.
@@ -139,6 +140,6 @@ returns-clause-reserves g c =
       c.clear.ensures.capacity,
       c.reserve.ensures.capacity,
       c.in_ok-reserve.ensures.len,
-      entries-length c.clear.new.entries.entries,
-      entries-length c.self.inside.entries.entries,
+      length-listed c.clear.new.entries.entries,
+      length-listed c.self.inside.entries.entries,
     )) had)

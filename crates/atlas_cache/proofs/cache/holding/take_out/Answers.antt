@@ -3,10 +3,11 @@ use Rattle.std.proofs.lemmas.Option.{slice_get_past}
 use Rattle.std.proofs.lemmas.Bool.{ne_eqb}
 use Rattle.atlas_cache.specs.Caches.{entries_of}
 use Rattle.atlas_entries.specs.Entries.{is_blank, no_page, without_number}
-use Rattle.atlas_cache.proofs.CacheLemmas.{number-at, pages_stay, rectangle-live, rest_held, rest_off}
+use Rattle.atlas_cache.proofs.CacheLemmas.{number-at, rectangle-live, rest_held, rest_off}
 use Rattle.atlas_cache.proofs.ListLemmas.{parts}
 use Rattle.atlas_cache.proofs.RoomLemmas.PageReserves.{none_used}
 use Rattle.atlas_cache.proofs.cache.holding.take_out.Goals as goal
+use Rattle.guillotiere.proofs.Callers.{leaves_off_pages}
 
 pub remove-requires : goal.remove-requires
 remove-requires g c = number-at c.args.number c.args.entries.now.entries c.args.entry c.requires.here
@@ -37,7 +38,7 @@ returns-else-entry-len-clause-held g c =
 
 pub returns-else-entry-len-clause-leaves : goal.returns-else-entry-len-clause-leaves
 returns-else-entry-len-clause-leaves g c =
-    pages_stay c.args.rooms.now.pages c.args.entry.page c.args.entry.id (omega (arith, c.if-entry-len.false, c.len.ensures.pages))
+    leaves_off_pages c.args.rooms.now.pages c.args.entry.page c.args.entry.id (omega (arith, c.if-entry-len.false, c.len.ensures.pages))
 
 pub returns-else-entry-len-clause-slots : goal.returns-else-entry-len-clause-slots
 returns-else-entry-len-clause-slots g c = none_used 0 c.args.rooms.now.pages

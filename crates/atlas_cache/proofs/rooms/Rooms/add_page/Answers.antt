@@ -1,10 +1,10 @@
 use Rattle.std.proofs.Common.{◌<◌, ap, length, arith, sym}
 use Rattle.std.proofs.lemmas.List.{length-map}
+use Rattle.guillotiere.specs.Pages.{page_sizes, size_of_page}
 use Rattle.guillotiere.specs.States.{live_in}
-use Rattle.guillotiere.proofs.Callers.{page_added}
-use Rattle.atlas_cache.specs.Rooms.{page_sizes, size_of_page}
+use Rattle.guillotiere.proofs.Callers.{page_added, others_stay}
 use Rattle.atlas_cache.proofs.RoomLemmas.PageGrowth.{joined_less, sizes_joined}
-use Rattle.atlas_cache.proofs.RoomLemmas.KeptPages.{new_is_page, others_stay, rooms_joined}
+use Rattle.atlas_cache.proofs.RoomLemmas.KeptPages.{new_is_page, rooms_joined}
 use Rattle.atlas_cache.proofs.RoomLemmas.PageReserves.{starts_last}
 use Rattle.atlas_cache.proofs.RoomLemmas.KnownPages.{known_joined}
 use Rattle.atlas_cache.proofs.RoomLemmas.LiveAreas.{live_sum}

@@ -1,6 +1,7 @@
 use Rattle.std.proofs.Common.{◌<◌, ◌∙◌, length, refl, inl, inr, ap, arith, slice_set, sum_by, sym}
 use Rattle.std.proofs.lemmas.{List.{length-set}, Option.{slice_get_cases}}
-use Rattle.atlas_cache.specs.Rooms.{page_sizes, RoomsState}
+use Rattle.guillotiere.specs.Pages.{page_sizes}
+use Rattle.atlas_cache.specs.Rooms.{RoomsState}
 use Rattle.atlas_cache.proofs.RoomLemmas.KeptPages.{rooms_stay, sizes_stay}
 use Rattle.atlas_cache.proofs.RoomLemmas.PageReserves.{both_used, none_used, page_uses}
 use Rattle.atlas_cache.proofs.RoomLemmas.PageRoom.{one_more_idle}

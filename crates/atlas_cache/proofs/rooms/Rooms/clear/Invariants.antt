@@ -1,7 +1,7 @@
 use Rattle.std.proofs.Common.{◌≡◌, ◌<◌, ℕ, None, length}
-use Rattle.guillotiere.specs.Pages.{rectangle_on}
+use Rattle.guillotiere.specs.Pages.{page_sizes, rectangle_on}
 use Rattle.atlas_cache.specs.Reserving.{UseAtMost}
-use Rattle.atlas_cache.specs.Rooms.{page_sizes, rooms_of, AreKnown, KeepsRooms}
+use Rattle.atlas_cache.specs.Rooms.{rooms_of, AreKnown, KeepsRooms}
 use Rattle.atlas_cache.proofs.rooms.Rooms.clear.Given as goal
 
 abbrev pub invariant-loop-page : goal.invariant-loop-page

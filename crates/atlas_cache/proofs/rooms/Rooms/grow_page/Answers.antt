@@ -1,12 +1,13 @@
 use Rattle.std.proofs.Common.{◌≡◌, ◌∙◌, Some, ap, arith, refl, subst, sym}
 use Rattle.std.proofs.lemmas.Option.{slice_get-get_or}
+use Rattle.guillotiere.specs.Pages.{page_sizes}
 use Rattle.guillotiere.specs.Pixels.{sides_of, size_of}
 use Rattle.guillotiere.specs.Steps.{Step}
 use Rattle.guillotiere.specs.Steps.AtlasCall.{Grow}
 use Rattle.guillotiere.specs.Steps.AtlasReply.{Refused}
 use Rattle.guillotiere.specs.Stored.{state_of}
 use Rattle.atlas_entries.specs.declared.error.CacheError.TheVariants.{Slots}
-use Rattle.atlas_cache.specs.Rooms.{page_sizes, rooms_of, AreKnown, KeepsRooms}
+use Rattle.atlas_cache.specs.Rooms.{rooms_of, AreKnown, KeepsRooms}
 use Rattle.atlas_cache.proofs.RoomLemmas.PageGrowth.{grown_less, growth_of, not_all_largest}
 use Rattle.atlas_cache.proofs.RoomLemmas.KeptPages.{nothing_changes, others_kept, page_grows, rectangles_stay, rooms_keep, sizes_set}
 use Rattle.atlas_cache.proofs.RoomLemmas.PageReserves.{first_growth_short, growth_short, none_used, page_steps_on, page_uses}

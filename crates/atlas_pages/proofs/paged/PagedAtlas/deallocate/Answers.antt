@@ -1,7 +1,8 @@
 use Rattle.std.proofs.Common.{◌≡◌, arith, false, subst, true, IsSome}
 use Rattle.atlas_pages.specs.Paged.{PagedState}
-use Rattle.atlas_pages.proofs.PagedLemmas.{freeing_steps, leaves_off_pages, no_rectangle_off}
+use Rattle.atlas_pages.proofs.PagedLemmas.{freeing_steps}
 use Rattle.atlas_pages.proofs.paged.PagedAtlas.deallocate.Goals as goal
+use Rattle.guillotiere.proofs.Callers.{no_rectangle_off, leaves_off_pages}
 
 pub returns-then-len-page-clause-ok : goal.returns-then-len-page-clause-ok
 returns-then-len-page-clause-ok g c =

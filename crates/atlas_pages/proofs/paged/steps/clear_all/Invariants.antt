@@ -1,7 +1,8 @@
 use Rattle.std.proofs.Common.{◌≡◌, ◌<◌, ◌≤◌, ℕ, length, slice_get}
+use Rattle.guillotiere.specs.Pages.{page_sizes}
 use Rattle.guillotiere.specs.Steps.AtlasCall.{Clear}
 use Rattle.guillotiere.specs.Steps.AtlasReply.{Done}
-use Rattle.atlas_pages.specs.Paged.{page_sizes, AreIdleAmong, StepsAt}
+use Rattle.atlas_pages.specs.Paged.{AreIdleAmong, StepsAt}
 use Rattle.atlas_pages.proofs.paged.steps.clear_all.Given as goal
 
 abbrev pub invariant-loop-page : goal.invariant-loop-page

@@ -1,6 +1,5 @@
-use Rattle.std.proofs.Common.{◌≡◌, ◌∙◌, None, Ok, subst}
+use Rattle.std.proofs.Common.{◌∙◌, None, Ok, subst}
 use Rattle.guillotiere.specs.Pages.{IsAnswerOn}
-use Rattle.atlas_pages.specs.Paged.{IsFirstAnswer}
 use Rattle.atlas_pages.proofs.PagedLemmas.{none_more}
 use Rattle.atlas_pages.proofs.paged.steps.grant_first.Goals as goal
 

@@ -1,8 +1,9 @@
 use Rattle.std.proofs.Common.{arith}
 use Rattle.std.proofs.lemmas.Bool.{leb-true}
 use Rattle.atlas_search.proofs.SearchLemmas.Bests.{seen-later}
-use Rattle.atlas_search.proofs.SearchLemmas.Heaps.{corner-first, first-then}
+use Rattle.atlas_search.proofs.SearchLemmas.Heaps.{corner-first}
 use Rattle.atlas_search.proofs.best.Best.passes_larger.Goals as goal
+use Rattle.atlas_model.proofs.ChoiceLemmas.PickExistence.{first-then}
 
 pub returns-then-self-le1 : goal.returns-then-self-le1
 returns-then-self-le1 c = λ yes is_large r shown more b cornered narrow seen larger.

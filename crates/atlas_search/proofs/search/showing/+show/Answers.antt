@@ -62,7 +62,7 @@ show_halves-returns-else-may_gain_in g t c = λ cell at l r has s.
           (c.requires.out w.if-may_fit.false))
     ])
     (heap-outside es c.args.halves.high _ r (fork-high es cell fork at l r s _ refl c.args.halves.high has.1) c.if-may_fit.best
-    (c.may_gain_in.ensures c.if-may_gain_in.false))
+    (c.may_gain_in.ensures.out c.if-may_gain_in.false))
 
 pub show_below-show_halves-requires : goal.show_below-show_halves-requires
 show_below-show_halves-requires g t c κs within =
@@ -82,7 +82,7 @@ show_below-show_halves-requires g t c κs within =
         low-less cell s.whole.is_cell split,
         high-less cell s.whole.is_cell split,
       ),
-      (within, ((cell, _, _, _, has, s), c.may_fit_by-may_fit.ensures)),
+      (within, ((cell, _, _, _, has, s), c.may_fit_by-may_fit.ensures.out)),
     )
 
 pub show_below-returns-then-is_cut_wide : goal.show_below-returns-then-is_cut_wide
@@ -111,7 +111,7 @@ show_below-show_halves-requires-else-is_cut_wide g t c κs within =
         low-less cell s.whole.is_cell split,
         high-less cell s.whole.is_cell split,
       ),
-      (within, ((cell, _, _, _, has, s), c.may_fit_by-may_fit-else-is_cut_wide.ensures)),
+      (within, ((cell, _, _, _, has, s), c.may_fit_by-may_fit-else-is_cut_wide.ensures.out)),
     )
 
 pub show_below-returns-else-is_cut_wide : goal.show_below-returns-else-is_cut_wide

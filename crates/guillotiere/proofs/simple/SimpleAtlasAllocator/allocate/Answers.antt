@@ -6,11 +6,11 @@ use Rattle.guillotiere.specs.FreeBoxes.FreeLists.{state_of_items}
 use Rattle.guillotiere.specs.SimpleStored.{simple_state_of}
 use Rattle.atlas_model.specs.Simple.{IsGuarded}
 use Rattle.atlas_model.proofs.SimpleLemmas.SimpleGrants.{step-guarded}
-use Rattle.atlas_store.proofs.StoreLemmas.Sizes.{natural-fits}
 use Rattle.guillotiere.proofs.SimpleLemmas.EntryCounts.{uses-old}
 use Rattle.guillotiere.proofs.SimpleLemmas.GrantedBoxes.{past_is_none}
 use Rattle.guillotiere.proofs.SimpleLemmas.StoredStates.{stored-step}
 use Rattle.guillotiere.proofs.simple.SimpleAtlasAllocator.allocate.Goals as goal
+use Rattle.atlas_search.proofs.SearchLemmas.Bests.{natural-most}
 
 pub invariant_of-self : goal.invariant_of-self
 invariant_of-self g c =
@@ -18,7 +18,7 @@ invariant_of-self g c =
     record {
       state = stored-step (box_shelf a.boxes) (box_shelf c.grant.new.boxes) a.size a.options (sides_of c.args.requested_size) c.grant.result
           c.self.invariant.state c.grant.ensures.kept
-          (c.grant.ensures.step (sides_of a.size) (natural-fits a.size.width (search rules)) (natural-fits a.size.height (search rules))
+          (c.grant.ensures.step (sides_of a.size) (natural-most a.size.width (search rules)) (natural-most a.size.height (search rules))
           c.self.invariant.state.simple);
       room = omega (arith, c.self.invariant.room, c.grant.ensures.capacity);
     }
@@ -34,7 +34,7 @@ returns-clause-simple g c =
     let a = c.self.inside in
     (stored-step (box_shelf a.boxes) (box_shelf c.grant.new.boxes) a.size a.options (sides_of c.args.requested_size) c.grant.result
     c.self.invariant.state c.grant.ensures.kept
-    (c.grant.ensures.step (sides_of a.size) (natural-fits a.size.width (search rules)) (natural-fits a.size.height (search rules))
+    (c.grant.ensures.step (sides_of a.size) (natural-most a.size.width (search rules)) (natural-most a.size.height (search rules))
     c.self.invariant.state.simple)).simple
 
 pub returns-clause-guarded : goal.returns-clause-guarded
@@ -44,7 +44,7 @@ returns-clause-guarded g c held guarded =
     (state_of_items (box_shelf c.grant.new.boxes).entries (sides_of a.size) a.options) (sides_of c.args.requested_size) c.grant.result
     held
     c.self.invariant.state.simple
-    (c.grant.ensures.step (sides_of a.size) (natural-fits a.size.width (search rules)) (natural-fits a.size.height (search rules))
+    (c.grant.ensures.step (sides_of a.size) (natural-most a.size.width (search rules)) (natural-most a.size.height (search rules))
     c.self.invariant.state.simple)
     (subst (λ w. IsGuarded (simple_state_of w) held) (sym c.self.view_is) guarded)
 
@@ -54,11 +54,11 @@ returns-clause-past g c past =
     past_is_none (state_of_items (box_shelf a.boxes).entries (sides_of a.size) a.options)
     (state_of_items (box_shelf c.grant.new.boxes).entries (sides_of a.size) a.options)
     (sides_of c.args.requested_size) c.self.invariant.state.simple
-    (natural-fits a.size.width (search rules)) (natural-fits a.size.height (search rules))
+    (natural-most a.size.width (search rules)) (natural-most a.size.height (search rules))
     (subst
     (λ w. (2147483647 < (rounded (simple_state_of w).options (sides_of c.args.requested_size)).width)
     ⊎ (2147483647 < (rounded (simple_state_of w).options (sides_of c.args.requested_size)).height))
     (sym c.self.view_is) past)
     c.grant.result
-    (c.grant.ensures.step (sides_of a.size) (natural-fits a.size.width (search rules)) (natural-fits a.size.height (search rules))
+    (c.grant.ensures.step (sides_of a.size) (natural-most a.size.width (search rules)) (natural-most a.size.height (search rules))
     c.self.invariant.state.simple)

@@ -4,7 +4,7 @@ use Rattle.atlas_model.specs.Boxes.{Box, whole_box, AreSameBoxes}
 use Rattle.guillotiere.specs.FreeBoxes.BoxShelves.{BoxShelf, box_shelf, free_item_boxes, stored_item}
 use Rattle.guillotiere.specs.FreeBoxes.FreeLists.{kept_of}
 use Rattle.atlas_model.specs.Pixels.{box_of, options_of, sides_of}
-use Rattle.atlas_model.proofs.SimpleLemmas.SimpleSteps.{whole-positive}
+use Rattle.atlas_model.proofs.TreeLemmas.TreeKept.{longer_positive}
 use Rattle.guillotiere.proofs.SimpleLemmas.CutBoxes.{at_error, length-kept}
 use Rattle.guillotiere.proofs.SimpleLemmas.SimpleLists.{rest-boxes, whole-exact}
 use Rattle.guillotiere.proofs.simple.changes.add_rest.Goals as goal
@@ -14,7 +14,7 @@ returns-clause-ok g c =
     let o = options_of c.args.options.now in
     let f = whole_box (sides_of c.args.new_size) in
     let is = c.guillotine-rest.ensures.boxes f
-    (c.from.ensures ∙ whole-exact c.args.new_size (whole-positive (sides_of c.args.size) (sides_of c.args.new_size) c.requires.sizes.0
+    (c.from.ensures ∙ whole-exact c.args.new_size (longer_positive (sides_of c.args.size) (sides_of c.args.new_size) c.requires.sizes.0
     c.requires.sizes.1)) in
     let old = free_item_boxes (box_shelf c.args.boxes.now).entries in
     let split = free_item_boxes (box_shelf c.keep.new.boxes).entries in
@@ -34,7 +34,7 @@ returns-in_err-make_room-clause-needed g c =
     let bs = c.args.boxes.now.entries.items in
     let f = whole_box (sides_of c.args.new_size) in
     let is = c.guillotine-rest.ensures.boxes f
-    (c.from.ensures ∙ whole-exact c.args.new_size (whole-positive (sides_of c.args.size) (sides_of c.args.new_size) c.requires.sizes.0
+    (c.from.ensures ∙ whole-exact c.args.new_size (longer_positive (sides_of c.args.size) (sides_of c.args.new_size) c.requires.sizes.0
     c.requires.sizes.1)) in
     at_error c.from_residual.result
     (omega (

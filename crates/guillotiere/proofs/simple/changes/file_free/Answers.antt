@@ -6,7 +6,8 @@ use Rattle.atlas_model.specs.Pixels.{box_of}
 use Rattle.atlas_search.specs.Rectangles.{IsUnsigned}
 use Rattle.atlas_store.specs.Slots.{nodes}
 use Rattle.atlas_store.specs.Visits.{free_areas}
-use Rattle.guillotiere.proofs.SimpleLemmas.SimpleLists.{next-all, next-filed, passed-free}
+use Rattle.atlas_store.proofs.WalkLemmas.WalkSteps.{free-pass}
+use Rattle.guillotiere.proofs.SimpleLemmas.SimpleLists.{next-all, next-filed}
 use Rattle.guillotiere.proofs.simple.changes.file_free.Goals as goal
 use Rattle.guillotiere.proofs.simple.changes.file_free.Goals.{then-eq+in_ok-file_area, else-eq}
 
@@ -32,7 +33,7 @@ loop-slot-preserved g c =
             omega (arith, c.loop-slot.invariant.4, w.in_ok-file_area.ensures.capacity),
           )
       | else-eq w ↦
-          let e = passed-free c.args.slots.now c.loop-slot.slot-index _ c.eq.result c.loop-slot-test.true c.eq.ensures w.if-eq.false in
+          let e = free-pass c.args.slots.now c.loop-slot.slot-index _ c.eq.result c.loop-slot-test.true c.eq.ensures w.if-eq.false in
           rw w.boxes-is (
             c.loop-slot.invariant.0,
             subst (All (λ r. IsUnsigned r × IsNonempty (box_of r))) e c.loop-slot.invariant.1,

@@ -1,4 +1,4 @@
-use Rattle.std.proofs.Common.{◌≡◌, ◌-◌, ◌<◌, ◌≤◌, ◌∙◌, ap, arith, drop, length, rules, subst, vec_capacity, vec_len, IsOk}
+use Rattle.std.proofs.Common.{◌≡◌, ◌<◌, ◌≤◌, ◌∙◌, ap, arith, drop, length, rules, subst, vec_capacity, vec_len, IsOk}
 use Rattle.guillotiere_c.specs.Following.{Followed}
 use Rattle.guillotiere_c.proofs.followed.FollowedCache.trim.Goals as goal
 

@@ -1,5 +1,5 @@
 -- `holds` compares the pointer with null: a block of the heap may be compared, and is none.
-use Rattle.std.proofs.Common.{◌≡◌, true, false, Option, Some, None, is_some, List, [], ◌∷◌, refl, sym, ap, ◌∙◌, lit<}
+use Rattle.std.proofs.Common.{true, false, Option, is_some, List, [], ◌∷◌, refl, sym, ap, ◌∙◌, lit<}
 use mir.Syntax.{named}
 use mir.Val.{Val, vbool}
 use mir.Raw.{raw as bare}
@@ -34,14 +34,10 @@ use Rattle.guillotiere_c.proofs.paged_handle.PagedHandle.holds.Statement.{statem
 use Rattle.guillotiere_c.proofs.paged_handle.PagedHandle.holds.Code as code
 use Rattle.guillotiere_c.specs.contracts.paged_handle.PagedHandle.{the_row as R}
 use Rattle.guillotiere_c.proofs.paged_handle.PagedHandle.TheLaws.{lowers}
+use Rattle.guillotiere_c.proofs.Lent.{by_kept}
 
 abbrev stayed : Stays f.ended.signature.params f.ended.kept
 stayed = (stay_ref (0 ∷ []) tt (plain (λ _. R)), tt)
-
--- what a handle keeps
-by_kept : {G : Type 1} {A : Type 0} (k : Option A) → (k ≡ None → G) → ((x : A) → k ≡ Some x → G) → G
-by_kept None none some = none refl
-by_kept (Some x) none some = some x refl
 
 pub holds_spec : {M : Type 1} → statement M
 holds_spec 𝓤 𝓛 𝓜 𝓡 wired =

@@ -1,5 +1,5 @@
 -- `open` moves what the handle owns into the struct.
-use Rattle.std.proofs.Common.{◌≡◌, T, Bool, Option, Some, None, IsSome, List, [], ◌∷◌, ◌++◌, sym, refl, ap, ◌∙◌, subst}
+use Rattle.std.proofs.Common.{◌≡◌, Option, Some, IsSome, List, [], ◌∷◌, ◌++◌, sym, refl, ap, ◌∙◌, subst}
 use mir.Val.{Val, vptr, vstruct, vcons, vnil, of_list}
 use mir.Raw.{raw as bare}
 use base.Logic.{SProp, ent, emp, id⊢, fst∗, never}
@@ -37,11 +37,7 @@ use Rattle.guillotiere_c.specs.contracts.simple_handle.SimpleHandle.open.{ended,
 use Rattle.guillotiere_c.specs.contracts.simple_handle.SimpleHandle.open.Key.{name as #self}
 use Rattle.guillotiere_c.proofs.simple_handle.SimpleHandle.open.Statement.{statement}
 use Rattle.guillotiere_c.proofs.simple_handle.SimpleHandle.open.Code as code
-
--- what a handle keeps, where it keeps something
-kept_is : {G : Type 1} {A : Type 0} (k : Option A) → IsSome k → ((x : A) → k ≡ Some x → G) → G
-kept_is None some f = absurd (subst (λ (b : Bool). T b) (sym some) tt)
-kept_is (Some x) some f = f x refl
+use Rattle.guillotiere_c.proofs.Lent.{by_held}
 
 pub open_spec : {M : Type 1} → statement M
 open_spec 𝓤 𝓛 𝓜 𝓡 wired =
@@ -61,7 +57,7 @@ open_spec 𝓤 𝓛 𝓜 𝓡 wired =
     move ! (1 ∷ []) $ heard ! (IsSome v.kept) (λ some. split ! $ move ! (1 ∷ []) $ fsplit ! $ peeks ! Z (Is Z) (shows 𝓛 Z) a z.0.4.0
     (λ is. rewrite ! 0 (λ (us : List Val). ‵ (Z.own_val a us)) (heap_Tells a z.0.4.0 is) refl $
     move ! (1 ∷ []) $ fsplit ! $ fsplit ! $ fpick ! (λ vss. fsplit ! $ feq_l ! (λ ev. fsplit ! $ feq_l ! (λ ep. drop ! $
-    kept_is v.kept some (λ x same. rewrite ! 0 (λ (k : Option SimpleValue). ‵ (keeps_simple k v.at)) same refl $
+    by_held v.kept some (λ x same. rewrite ! 0 (λ (k : Option SimpleValue). ‵ (keeps_simple k v.at)) same refl $
     in_a_block ! v.at (λ p. box_owns token R p x) (fst∗ 𝓤 (never 𝓤) (sem 𝓛 (token (bare (lone R.mir)) null_ptr))) (λ b o e.
     -- [what the handle owned; nothing; the allocator; the tokens]
     let p : Ptr = block_ptr b o in let w' : Val = vstruct (vcons (vptr b o) vnil) in let w : Val =
