@@ -14490,8 +14490,8 @@ SMALL uint32_t guillotiere_c_paged_guillotiere_paged_new(uint32_t width, uint32_
     return guillotiere_c_paged_start(width, height, at_6, most, paged);
 }
 
-/* The same with these options, of the atlas of each page. `DONE`; `BAD_CALL` if a side isn't above 0 or the options aren't
- * valid; `MEMORY`; `OCCUPIED`, before all others, if the handle holds one already.
+/* Makes a paged atlas as `guillotiere_paged_new` does, the atlas of each page with these options. `DONE`; `BAD_CALL` if a side
+ * isn't above 0 or the options aren't valid; `MEMORY`; `OCCUPIED`, before all others, if the handle holds one already.
  * crates/guillotiere_c/src/paged.rt
  */
 SMALL uint32_t guillotiere_c_paged_guillotiere_paged_with_options(uint32_t width, uint32_t height, const guillotiere_options *options,
@@ -19073,7 +19073,7 @@ SMALL uint64_t atlas_store_slots_walks_free_sum(slice_Slot slots) {
     return n_2;
 }
 
-/* The same of all free slots together.
+/* The area of all free slots that these sides don't fit, together.
  * crates/atlas_allocator/src/atlas/room.rt
  */
 SMALL uint64_t atlas_allocator_atlas_room_lost_sum(slice_Slot slots, atlas_model_Size size) {
@@ -21803,7 +21803,7 @@ SMALL void std_alloc_vec_Vec_drop_Marks_4(Vec_Slot given_1) {
     std_alloc_vec_Vec_destroy_empty_Marks_2(vec_2);
 }
 
-/* The same again.
+/* A scale of these options too.
  * crates/atlas_search/src/bands.rt
  */
 SMALL atlas_search_Scale atlas_search_bands_Scale_copy(const atlas_search_Scale *self) {
@@ -22341,7 +22341,7 @@ SMALL uint64_t atlas_allocator_atlas_room_lost_in(const atlas_model_Rectangle *f
     return atlas_allocator_atlas_room_area_of(free);
 }
 
-/* The same, or the second where there is no first.
+/* That one of two free rectangles which precedes the other, or the second where there is no first.
  * crates/atlas_allocator/src/atlas/room.rt
  */
 SMALL atlas_model_Rectangle atlas_allocator_atlas_room_larger(Option_Rectangle best, atlas_model_Rectangle free) {
@@ -23243,7 +23243,7 @@ SMALL Result_Option_PageAllocation_AtlasError atlas_pages_paged_at_page(uint64_t
     return result_6;
 }
 
-/* The same on a page that is added.
+/* Grants a request that no page has room for, on a page that is added; None if there are as many as there may be.
  * crates/atlas_pages/src/paged.rt
  */
 SMALL Result_Option_PageAllocation_AtlasError atlas_pages_paged_PagedAtlas_allocate_anew(atlas_pages_PagedAtlas *self,
@@ -23340,7 +23340,7 @@ SMALL BuildHasherDefault_FoldHasher core_hash_build_BuildHasherDefault_new_FoldH
     return new_BuildHasherDefault_FoldHasher(foldhasher_1);
 }
 
-/* The same, with a hasher for the keys.
+/* No pages and no entries, with a hasher for the keys. Takes no memory. An error says what is wrong with the options.
  * crates/atlas_cache/src/cache.rt
  */
 SMALL Result_TextureCache_u64_BuildHasherDefault_FoldHasher_FoldHasher_OptionsError atlas_cache_cache_TextureCache_with_hasher_u64_BuildHasherDefault_FoldHasher_FoldHasher(atlas_cache_CacheOptions options, BuildHasherDefault_FoldHasher hasher) {
@@ -24397,7 +24397,7 @@ SMALL uint64_t atlas_cache_rooms_usable_taken_side(uint32_t side, uint32_t paddi
     return ((((uint64_t)(int64_t)(int32_t)n_6 + (2u * (uint64_t)(int64_t)(int32_t)padding)) + (n_5 - 1u)) / n_5) * n_5;
 }
 
-/* The same of a page.
+/* The area of a page's free rectangles that one of these sides doesn't fit.
  * crates/atlas_cache/src/rooms/usable.rt
  */
 SMALL Result_u64_CacheError atlas_cache_rooms_usable_unusable_on(const atlas_allocator_AtlasAllocator *page, uint64_t width,
@@ -27293,7 +27293,7 @@ SMALL bool atlas_cache_rooms_Rooms_have_area(const atlas_cache_Rooms *self, atla
     return false;
 }
 
-/* The same, but for the count of forced evictions.
+/* Inserts a key, and leaves the count of forced evictions as it is.
  * crates/atlas_cache/src/cache/inserting.rt
  */
 SMALL Result_Inserted_CacheError atlas_cache_cache_TextureCache_insert_uncounted_u64_BuildHasherDefault_FoldHasher_FoldHasher(atlas_cache_TextureCache_u64_BuildHasherDefault_FoldHasher_FoldHasher *self, uint64_t key, atlas_model_Size size, atlas_model_Size asked, Vec_Slot *changes) {
@@ -28363,7 +28363,7 @@ SMALL uint32_t core_int_i32_max(uint32_t given_1, uint32_t given_2) {
     return n_4;
 }
 
-/* The same of several together.
+/* The area of several free rectangles that one of these sides doesn't fit, together.
  * crates/atlas_cache/src/rooms/usable.rt
  */
 SMALL uint64_t atlas_cache_rooms_usable_unusable_sum(slice_Rectangle free, uint64_t width, uint64_t height) {
@@ -40048,7 +40048,7 @@ SMALL void atlas_store_slots_set_previous(slice_Slot_2 slots, atlas_search_Link 
     }
 }
 
-/* The same with a leaf that is alone in the container of slot `at`, and fills it; slot `front` was unused.
+/* A leaf that is alone in the container of slot `at`, and fills it, is cut so; slot `front` was unused.
  * crates/atlas_store/src/slots/placing.rt
  */
 SMALL atlas_store_Node atlas_store_slots_placing_cut_inside(slice_Slot_2 slots, atlas_search_Link at, atlas_store_Node container,
@@ -41608,7 +41608,7 @@ SMALL Result_AllocFailed_Entry_u64 std_alloc_vec_Vec_push_Entry_u64(Vec_Slot *se
     return new_Result_AllocFailed_Entry_u64_Ok();
 }
 
-/* The same, where none but the pages from `from` on and before `to` can have room: only these are looked at.
+/* Grants a request as `place` does, where none but the pages from `from` on and before `to` can have room: only these are looked at.
  * crates/atlas_cache/src/rooms.rt
  */
 SMALL Result_Option_tuple_u32_Allocation_CacheError atlas_cache_rooms_Rooms_place_among(atlas_cache_Rooms *self, uint64_t from,
@@ -41702,7 +41702,7 @@ SMALL Option_tuple_u32_Entry_u64 atlas_cache_cache_holding_oldest_lying_u64_Buil
     return result;
 }
 
-/* The same, with nothing shown before. An error is a refusal of memory for marks of slots.
+/* What `first_vacancy` finds, where nothing was shown before. An error is a refusal of memory for marks of slots.
  * crates/atlas_cache/src/cache/vacating.rt
  */
 SMALL Result_Option_Vacancy atlas_cache_cache_vacating_find_vacancy_u64_BuildHasherDefault_FoldHasher_FoldHasher(const atlas_cache_Rooms *rooms, const atlas_entries_Entries_u64_BuildHasherDefault_FoldHasher_FoldHasher *entries, Vec_Slot *marks, uint64_t frame, atlas_model_Size asked) {
@@ -46150,7 +46150,7 @@ SMALL Option_u32 atlas_entries_entries_Entries_newer_u64_BuildHasherDefault_Fold
     return atlas_entries_recency_Recency_newer(&self->recency, number);
 }
 
-/* The same on each page, which has marks of its own.
+/* Nothing is shown on any page, each of which has marks of its own.
  * crates/atlas_cache/src/rooms/rehearsing.rt
  */
 SMALL Result atlas_cache_rooms_Rooms_show_none_on_all(const atlas_cache_Rooms *self, Vec_Slot *marks) {
