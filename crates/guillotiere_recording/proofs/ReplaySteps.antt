@@ -162,8 +162,6 @@ module _ (a b : AtlasValue) (names left : Names) (size : Size) (recorded granted
       },
     )
 
--- A grant that differs.
-
 -- A freeing.
 
 pub freed_on : (a b : AtlasValue) (names left : Names) (name id : ℕ) → get nat_cmp names name ≡ Some id
@@ -252,8 +250,6 @@ grown_on a b names size stepped s h = (
           let same = counts k in
           (h.finds n k).1 (counted_live s.state k (omega (arith, some, same)), is),
     )
-
--- Refusals
 
 -- What a fault says that is another one's.
 

@@ -65,5 +65,3 @@ pick_of_class class free o r shown f from of best =
           best.first (shown_at b (seen b h.candidate).0) (seen b h.candidate).1 h.candidate.fitting.fits
           (as_good-best o r b f.box h.candidate.fitting.fits best.fits (h.equal_side f.box candidate) (h.margin f.box candidate));
     }
-
--- Rounding up gives the least multiple that is no less.
