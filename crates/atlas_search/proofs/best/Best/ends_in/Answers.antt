@@ -1,4 +1,4 @@
-use Rattle.std.proofs.Common.{◌-◌, ap, sym, ◌∙◌, arith}
+use Rattle.std.proofs.Common.{ap, sym, ◌∙◌, arith}
 use Rattle.atlas_model.specs.Boxes.{Sides}
 use Rattle.atlas_model.specs.Pixels.{sides_of}
 use Rattle.atlas_model.proofs.ChoiceLemmas.PickExistence.{first-then}
@@ -11,8 +11,7 @@ pub returns : goal.returns
 returns c = λ yes is_large r shown more b cornered narrow seen within.
     let wide = ap (λ (s : Sides). s.width) (asked c.args.self.now is_large r shown seen) in
     let tall = ap (λ (s : Sides). s.height) (asked c.args.self.now is_large r shown seen) in
-    let beyond = both-beyond (sides_of c.args.self.now.size) (c.args.self.now.reach - 1) c.args.cell
-    (sym c.is_beyond.ensures ∙ yes) in
+    let beyond = both-beyond (sides_of c.args.self.now.size) _ c.args.cell (sym c.is_beyond.ensures ∙ yes) in
     let reach = c.args.self.now.reached (omega (arith, beyond.0, c.well_formed)) in
     seen-later c.args.self.now is_large r shown more seen reach
     (λ a na ca d has.
