@@ -8,7 +8,7 @@ import sys
 import tempfile
 
 sys.dont_write_bytecode = True
-from measure import ROOT, Failure, call, say  # noqa: E402
+from measure import ROOT, Failure, absent, call, say  # noqa: E402
 
 sys.path.append(os.path.join(ROOT, 'rust'))
 import cargo_here  # noqa: E402
@@ -31,8 +31,21 @@ lto = "fat"
 [workspace]
 """
 EUCLID = '[package]\nname = "euclid"\nversion = "0.0.0"\nedition = "2021"\n'
+# The least Rust that builds bench/cliffs: `black_box` came with it.
+RUST = (1, 66)
 STEPS = ['--cfg steps', '-C profile-generate=' + os.devnull, '-C llvm-args=-disable-vp']
 PART = re.compile(r'(?<!\S)([a-z]+):(\d+):(\d+)')
+
+
+def lacking(files):
+    """What isn't there of these and of a cargo that can build bench/cliffs, in words, or ''."""
+    wanting = absent(['cargo'], files)
+    if wanting:
+        return wanting
+    rustc = os.path.join(os.path.dirname(cargo_here.cargo()), 'rustc')
+    told = call([rustc, '--version']).strip()
+    version = re.search(r'(\d+)\.(\d+)', told)
+    return '' if version and tuple(map(int, version.groups())) >= RUST else '%s is older than Rust %d.%d' % (told, *RUST)
 
 
 def read(path):

@@ -34,7 +34,7 @@ fn tell(mut counts: Counts) {
     let gone = &counts.gone;
     let (ninety_ninth, worst) = match gone.len() {
         0 => (0, 0),
-        calls => (gone[(calls * 99).div_ceil(100) - 1], gone[calls - 1]),
+        calls => (gone[(calls * 99 + 99) / 100 - 1], gone[calls - 1]),
     };
     println!(
         "uses={} misses={} pixels={} inserts={} mean={:.4} ninety_ninth={} worst={} full={} repacks={} moved={} moved_pixels={} lost={}",
