@@ -249,7 +249,13 @@ impl Walk<'_> {
                         self.inside.push(entry.into_path());
                     }
                 }
-                Err(error) => self.fail(&error),
+                Err(error) => {
+                    self.fail(&error);
+                    // By Rust 1.63 a folder that can't be listed to its end says so again for ever.
+                    if error.path().is_none() {
+                        walk.skip_current_dir();
+                    }
+                }
             }
         }
         self.files.sort();
