@@ -54,6 +54,12 @@ def cargo():
     return found[0]
 
 
+def minor():
+    """The N of the Rust 1.N that the cargo is of, or 0."""
+    told = re.search(r'1\.(\d+)', call([cargo(), '--version']))
+    return int(told[1]) if told else 0
+
+
 def has_library(cargo_path, triple):
     """Whether the rustc beside a cargo has Rust's own library for a target, or is told where it lies."""
     flags = os.environ.get('CARGO_TARGET_%s_RUSTFLAGS' % triple.upper().replace('-', '_'), '').split()

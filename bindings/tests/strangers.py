@@ -12,6 +12,7 @@ import package
 from runner import Failure, call, module_of, read, write
 from suite import BINDINGS as HERE
 from suite import ROOT, Library
+from without_std import is_new_enough
 
 
 def use_readme(library):
@@ -160,8 +161,8 @@ def test_strangers(suite, library):
         if shutil.which('pkg-config'):
             suite.run("a stranger's program, by CMake and pkg-config", use_cmake, library, 1, '')
         if library.is_plain:
-            suite.run("a stranger's program, by add_subdirectory", use_sources, library,
-                      'set(GUILLOTIERE_LEAN ON)\nadd_subdirectory("%s" guillotiere)\n' % HERE)
+            lines = ('set(GUILLOTIERE_LEAN ON)\n' if is_new_enough() else '') + 'add_subdirectory("%s" guillotiere)\n' % HERE
+            suite.run("a stranger's program, by add_subdirectory", use_sources, library, lines)
             suite.run("a stranger's program, by FetchContent", use_sources, library, 'include(FetchContent)\n'
                       'FetchContent_Declare(guillotiere SOURCE_DIR "%s" SOURCE_SUBDIR bindings)\n'
                       'FetchContent_MakeAvailable(guillotiere)\n' % ROOT)

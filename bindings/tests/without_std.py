@@ -33,8 +33,7 @@ def run_bare(library, flags=()):
 
 
 def is_new_enough():
-    version = re.search(r'1\.(\d+)', call([cargo_here.cargo(), '--version']))
-    return version is not None and int(version[1]) >= LEAST_WITHOUT_STD
+    return cargo_here.minor() >= LEAST_WITHOUT_STD
 
 
 def check_needed(library):

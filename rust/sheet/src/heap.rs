@@ -6,6 +6,7 @@ use std::cell::Cell;
 use std::collections::TryReserveError;
 use std::io::{stderr, Write};
 use std::sync::atomic::{AtomicBool, Ordering};
+use std::sync::{Mutex, PoisonError};
 use std::thread;
 use std::time::Duration;
 
@@ -15,6 +16,9 @@ thread_local! {
     // Whether this thread ends the program.
     static ENDS: Cell<bool> = const { Cell::new(false) };
 }
+
+// Given back where there is no memory, since the end takes some: by Rust 1.63 a file's name does that is removed.
+static SPARE: Mutex<Vec<u8>> = Mutex::new(Vec::new());
 
 struct Heap;
 
@@ -56,6 +60,9 @@ fn end(size: usize) -> ! {
     }
     if !is_own {
         let _ = ENDS.try_with(|ends| ends.set(true));
+        if let Ok(mut spare) = SPARE.try_lock() {
+            *spare = Vec::new();
+        }
         let _ = writeln!(
             stderr(),
             "guillotiere-sheet: there is no memory for {} bytes more; with a lower --memory it is refused at once",
@@ -64,6 +71,11 @@ fn end(size: usize) -> ! {
         stop::clear();
     }
     std::process::exit(ROOM.into())
+}
+
+/// Sets memory aside for an end that there is no other memory for.
+pub fn set_aside() {
+    *SPARE.lock().unwrap_or_else(PoisonError::into_inner) = Vec::with_capacity(1 << 16);
 }
 
 /// An empty list with room for so many, if there is memory for it.

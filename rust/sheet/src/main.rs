@@ -456,6 +456,7 @@ fn main() -> ExitCode {
         Ok(words) => words,
         Err(fault) => return ExitCode::from(tell_fault(&fault)),
     };
+    heap::set_aside();
     stop::listen();
     if words.watch {
         let again = || words::words(std::env::args_os());
